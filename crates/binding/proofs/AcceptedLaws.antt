@@ -1,4 +1,4 @@
--- What positions without a fault keep, and which fault goes first.
+-- Properties of positions without a fault, and the order of faults.
 use Rattle.std.proofs.Common.{◌≡◌, ℕ, ◌≤◌, Bool, true, false, ◌&&◌, List, length, map, Some, None, sym, ap, ◌∙◌}
 use Rattle.std.specs.Prelude.{nat_abs, nat_lt}
 use Rattle.std.specs.List.{list_any}
@@ -15,7 +15,7 @@ use Rattle.binding.proofs.KnownRecords.{all_pass}
 use Rattle.binding.proofs.OwnerLaws.{first_is_held, first_is_net, first_is_unknown, fit_from, none_from}
 use Rattle.binding.proofs.PortfolioLaws.{net_within, few_from}
 
--- each record is of a known contract, and no account's net and no account's number of contracts is over its limit
+-- each record is of a known contract, and the nets and the number of contracts of each account are within the limits
 pub record IsFit (contracts : List Contract) (all : List PositionRecord) : Type 0 where
   pub known : list_any (is_unknown contracts) all ≡ false
   pub within : list_any (exceeds_net all) all ≡ false

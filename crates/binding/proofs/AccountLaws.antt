@@ -1,4 +1,4 @@
--- Laws of accounts that stand apart, and of what is gathered for each.
+-- Lemmas about distinct accounts and the entries gathered for each.
 use Rattle.std.proofs.Common.{◌≡◌, ℕ, zero, suc, ◌+◌, ◌<◌, ◌≤◌, ◌⊎◌, Bool, true, false, cond, not}
 use Rattle.std.proofs.Common.{List, [], ◌∷◌, ◌++◌, length, get_or, set, filter, map, take, drop, Some, None}
 use Rattle.std.proofs.Common.{ltb, position, slice_get, refl, sym, ap, subst, ◌∙◌, inl, inr, arith, length-drop}
@@ -32,7 +32,7 @@ bytes_eq-flip a b = by (cases_Bool (bytes_eq a b)) (cases_Bool (bytes_eq b a))
     by (inr x) (inl y) = absurd (true≢false (sym (bytes_eq-refl a) ∙ ap (bytes_eq a) (sym (same_name b a y)) ∙ x))
     by (inr x) (inr y) = x ∙ sym y
 
--- the name at a place stands at no other one
+-- a name that is in a list differs from a name that is not
 not_before : (k : List ℕ) (ks : List (List ℕ)) (a : ℕ) (name : List ℕ) → list_any (bytes_eq k) ks ≡ false
     → slice_get ks a ≡ Some name → bytes_eq name k ≡ false
 not_before k ks a name none at =
@@ -43,7 +43,7 @@ not_before k ks a name none at =
       | inr apart ↦ apart
     ]
 
--- the place of a name is the first one where the name is found, in a list without a repeat
+-- in a list without repeats a name is first found at its own index
 first_place : (ks : List (List ℕ)) (a : ℕ) (name : List ℕ) → has_repeat bytes_eq ks ≡ false → slice_get ks a ≡ Some name
     → position_or_len (bytes_eq name) ks ≡ a
 first_place [] a name apart at = cc
@@ -62,9 +62,9 @@ place_is ks a name apart at =
     ap (λ n. cond (ltb n (length ks)) (Some n) None) (first_place ks a name apart at)
     ∙ ap (λ b. cond b (Some a) None) (lt-ltb a (length ks) (slice_get_within ks a name at))
 
--- ---- what is gathered for some of the accounts, from one on
+-- ---- the entries gathered for a range of accounts
 
--- so many are taken
+-- the range has c accounts
 pub some_long : (ks : List (List ℕ)) (f c : ℕ) → f + c ≤ length ks → length (take c (drop f ks)) ≡ c
 some_long ks f c within = let size = length-drop f ks in length-take-le c (drop f ks) (omega (arith, within, size))
 
@@ -79,7 +79,7 @@ module _ (ks : List (List ℕ)) (alone : has_repeat bytes_eq ks ≡ false) (f c 
   gathered_at g k lt =
       get_or-map g some k [] [] (omega (arith, lt, long)) ∙ ap g (get_or-take c (drop f ks) k [] lt ∙ get_or-drop f ks k [])
 
-  -- names at two places are apart
+  -- the names at two indexes are different
   apart_at : (a b : ℕ) → a < length ks → b < length ks → (a ≡ b → ⊥) → bytes_eq (get_or ks a []) (get_or ks b []) ≡ false
   apart_at a b la lb other =
       false_from_ne_true (bytes_eq (get_or ks a []) (get_or ks b [])) (λ t.
@@ -95,7 +95,7 @@ module _ (ks : List (List ℕ)) (alone : has_repeat bytes_eq ks ≡ false) (f c 
         let name = get_or ks (f + k) [] in
         sym (grows name ∙ ap (λ t. cond t (g name ++ e ∷ []) (g name)) (apart_at a (f + k) known (omega (arith, lt, within)) other))
 
-    -- an entry of an account that is not among them
+    -- an entry of an account outside the range
     pub left_out : ((k : ℕ) → k < c → a ≡ f + k → ⊥) → map g some ≡ map next some
     left_out other =
         ext_get_or [] (map g some) (map next some) (length-map some g ∙ sym (length-map some next)) (λ k lt.
@@ -103,7 +103,7 @@ module _ (ks : List (List ℕ)) (alone : has_repeat bytes_eq ks ≡ false) (f c 
         let less : k < c = omega (arith, lt, size, long) in
         gathered_at g k less ∙ stays k less (other k less) ∙ sym (gathered_at next k less))
 
-    -- an entry of the account at a place among them
+    -- an entry of the account at index j of the range
     pub entered : (j : ℕ) → j < c → a ≡ f + j → set (map g some) j (get_or (map g some) j [] ++ e ∷ []) ≡ map next some
     entered j lj is =
         ext_get_or [] now (map next some) (size ∙ sym (length-map some next)) (λ k lt.
@@ -132,7 +132,7 @@ module _ (ks : List (List ℕ)) (alone : has_repeat bytes_eq ks ≡ false) (f c 
             ∙ stays k less (λ q. other (omega (arith, q, is))) ∙ sym (gathered_at next k less)
 
 module _ (ids : List (List ℕ)) (front : List PositionRecord) (p : PositionRecord) where
-  -- the entries of an account, with one more record
+  -- the entries of an account after one more record
   pub entries_push : (b : List ℕ) → entries_of ids (front ++ p ∷ []) b
       ≡ cond (bytes_eq p.account b) (entries_of ids front b ++ entry_of ids p ∷ []) (entries_of ids front b)
   entries_push b = ap (map (entry_of ids)) (filter-append of_account front (p ∷ [])) ∙ by (bytes_eq p.account b)

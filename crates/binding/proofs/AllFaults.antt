@@ -6,15 +6,15 @@ use Rattle.std.proofs.lemmas.List.{take_more, drop_more, drop_all, length-take-l
 use Rattle.span_tables.specs.Faults.{all_faults, faults_after}
 
 module _ {A F : Type 0} (fault_of : List A → A → Option (ℕ → F)) (all : List A) where
-  -- the faults of the elements from a place on
+  -- the faults of the elements from index i on
   abbrev pub faults_from : ℕ → List F
   faults_from i = faults_after fault_of (take i all) (drop i all)
 
-  -- the fault of an element at a place
+  -- the fault of the element at index i
   abbrev pub fault_at : ℕ → A → List F
   fault_at i x = option_to_list (option_map (λ fault. fault (i + 1)) (fault_of (take i all) x))
 
-  -- the element at a place, and those behind it
+  -- the faults of the element at index i, followed by the faults of later elements
   pub faults_from_next : (i : ℕ) (d : A) → i < length all → faults_from i ≡ fault_at i (get_or all i d) ++ faults_from (i + 1)
   faults_from_next i d h =
       ap (faults_after fault_of (take i all)) (drop_more all i d h)
@@ -23,11 +23,11 @@ module _ {A F : Type 0} (fault_of : List A → A → Option (ℕ → F)) (all : 
       ∙ ap (λ n. option_to_list (option_map (λ fault. fault (n + 1)) (fault_of (take i all) (get_or all i d))) ++ faults_from (i + 1))
       (length-take-le i all (omega arith))
 
-  -- behind the last element there are none
+  -- after the last element there are no faults
   pub faults_from_end : (i : ℕ) → length all ≤ i → faults_from i ≡ []
   faults_from_end i h = ap (faults_after fault_of (take i all)) (drop_all i all h)
 
-  -- what is told with one more element
+  -- the faults reported after one more element
   pub told_next : (told now total : List F) (i : ℕ) (d : A) → i < length all
       → (o : Option (ℕ → F)) → fault_of (take i all) (get_or all i d) ≡ o
       → now ≡ told ++ option_to_list (option_map (λ fault. fault (i + 1)) o) → told ++ faults_from i ≡ total
@@ -38,7 +38,7 @@ module _ {A F : Type 0} (fault_of : List A → A → Option (ℕ → F)) (all : 
       ∙ ap (λ p. told ++ (option_to_list (option_map (λ fault. fault (i + 1)) p) ++ faults_from (i + 1))) (sym e)
       ∙ ap (λ xs. told ++ xs) (sym (faults_from_next i d h)) ∙ was
 
--- two tests that agree on each element behind those before it give the same faults
+-- two fault tests that agree on each element, given the earlier ones, give the same faults
 module _ {A F : Type 0} (these those : List A → A → Option (ℕ → F)) (all : List A)
     (same : (i : ℕ) (d : A) → i < length all → these (take i all) (get_or all i d) ≡ those (take i all) (get_or all i d)) where
   same_from : (n i : ℕ) (d : A) → i + n ≡ length all → faults_from these all i ≡ faults_from those all i

@@ -1,4 +1,4 @@
--- What positions are bound to, by the nets of their accounts as they are kept.
+-- The result of binding positions, from the stored nets of their accounts.
 use Rattle.std.proofs.Common.{◌≡◌, ℕ, ◌<◌, Bool, true, false, not, ◌&&◌, List, [], ◌∷◌, ◌++◌, filter, length, map}
 use Rattle.std.proofs.Common.{Option, Some, None, Ok, Err, refl, sym, ap, subst, ◌∙◌, arith}
 use Rattle.std.specs.Prelude.{ℤ, All, bytes_eq, MatchBool, nat_abs, nat_lt, slice_get, ⊤}
@@ -42,7 +42,7 @@ nowhere : {X : Type 0} (xs : List X) (k : ℕ) → k < length xs → slice_get x
 nowhere [] k lt e = omega (arith, lt)
 nowhere (x ∷ xs) k lt e = none-some _ (sym e ∙ slice_get-get_or (x ∷ xs) k x lt)
 
--- where no record is of an unknown contract, there is no fault of one
+-- if no record is of an unknown contract, there is no fault of an unknown contract
 pub no_foreign : (ids : List (List ℕ)) (positions : List PositionRecord) → list_any (is_foreign ids) positions ≡ false
     → foreign_faults ids positions ≡ []
 unfolding foreign_faults
@@ -81,7 +81,7 @@ module _ (contracts : List Contract) (positions : List PositionRecord) (ids : Li
           let rest = each ks in
           λ k. map kept_holding (sym here k) ∷ rest k
 
-  -- a net over the limit among what an account holds is the net of its contract
+  -- a net over the limit among an account's holdings is the net of its contract
   over_held : (account name : List ℕ) → list_any (bytes_eq name) (ids_of contracts) ≡ true
       → is_over_at (position_or_len (bytes_eq name) (ids_of contracts)) (held account)
       ≡ nat_lt MAX_NET (nat_abs (net_of known account name))
@@ -152,7 +152,7 @@ module _ (contracts : List Contract) (positions : List PositionRecord) (ids : Li
         (all_pass (is_known contracts) positions fit.known)
         ∙ sym (map-map (map kept_holding) (holdings_of contracts positions) (accounts_of positions)) ∙ all_same exact exact_hold
 
-    -- without a fault the nets are portfolios, the portfolios of the definition
+    -- without a fault the nets are portfolios, as in the definition
     pub nets_hold : All ArePortfolio nets
     nets_hold = subst (All ArePortfolio) (sym nets_are) exact_hold
 
@@ -167,7 +167,7 @@ pub unless : (b : Bool) {P : Type 0} → P → MatchBool b ⊤ P
 unless true p = tt
 unless false p = p
 
--- what is answered by the first of all faults
+-- the result, from the first of all faults
 module _ (contracts : List Contract) (positions : List PositionRecord) (faults : List BindFault)
     (are : faults ≡ bind_faults contracts positions) where
   pub none_first_is : None ≡ first_of faults → bind_fault contracts positions ≡ None
@@ -184,7 +184,7 @@ module _ (contracts : List Contract) (positions : List PositionRecord) (faults :
   unfolding bindings_of
   all_given all none is = ap (λ o. ok_unless o (portfolios_of contracts positions)) (none_first_is none) ∙ ap Ok (sym is)
 
--- what is gathered of records is the nets and faults of them
+-- gathering records gives their nets and their faults
 pub gathered_of : (contracts : List Contract) (positions : List PositionRecord) (ids : List (List ℕ)) (unknown : List BindFault)
     (ledgers : List (List Entry)) (nets : List (List Holding)) → has_repeat (λ x y. bytes_eq x.id y.id) contracts ≡ false
     → ids ≡ ids_of contracts → unknown ≡ foreign_faults ids positions

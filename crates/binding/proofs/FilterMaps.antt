@@ -1,4 +1,4 @@
--- A filter of a list by what its elements are.
+-- Lists filtered by an optional value of each element.
 use Rattle.std.proofs.Common.{◌≡◌, Bool, List, [], ◌∷◌, ◌++◌}
 use Rattle.std.proofs.Common.{Option, Some, None, refl, sym, ap, ◌∙◌}
 use Rattle.std.specs.Prelude.{filter_map, map, option_to_list}
@@ -11,7 +11,7 @@ module _ {X A : Type 0} (h : X → Option A) where
   one None x e = rw e refl
   one (Some a) x e = rw e refl
 
-  -- one more element
+  -- the filtered list after one more element
   pub filter_map_more : (xs : List X) (x : X) → filter_map h xs ++ option_to_list (h x) ≡ filter_map h (xs ++ x ∷ [])
   filter_map_more xs x = sym (filter_map-append h xs (x ∷ []) ∙ ap (λ zs. filter_map h xs ++ zs) (one (h x) x refl))
 
@@ -21,17 +21,17 @@ module _ {X A : Type 0} (h : X → Option A) where
   any_by p x xs None e more = rw e more
   any_by p x xs (Some a) e more = rw (e, more) refl
 
-  -- a test of what the elements are
+  -- a test of the values of the filtered list, as a test of the elements
   pub list_any-filter_map : (p : A → Bool) (xs : List X) → list_any p (filter_map h xs) ≡ list_any (λ x. is_and (h x) p) xs
   list_any-filter_map p [] = refl
   list_any-filter_map p (x ∷ xs) = any_by p x xs (h x) refl (list_any-filter_map p xs)
 
--- tests that say the same of each element
+-- tests that agree on each element
 pub list_any-same : {X : Type 0} (p q : X → Bool) → ((x : X) → p x ≡ q x) → (xs : List X) → list_any p xs ≡ list_any q xs
 list_any-same p q same [] = refl
 list_any-same p q same (x ∷ xs) = rw (same x) (rw (list_any-same p q same xs) refl)
 
--- a test of what a function gives
+-- a test of the values of a function, as a test of its arguments
 pub list_any-map : {X Y : Type 0} (p : Y → Bool) (h : X → Y) (xs : List X) → list_any p (map h xs) ≡ list_any (λ x. p (h x)) xs
 list_any-map p h [] = refl
 list_any-map p h (x ∷ xs) = rw (list_any-map p h xs) refl

@@ -1,4 +1,4 @@
--- All faults of records, by what each account holds as it is kept.
+-- All faults of records, from the stored nets of each account.
 use Rattle.std.proofs.Common.{◌≡◌, ℕ, ◌<◌, Bool, true, false, not, ◌&&◌, List, [], ◌++◌, length, get_or, map, Some, None}
 use Rattle.std.proofs.Common.{position, refl, ap, ◌∙◌, arith}
 use Rattle.std.specs.Prelude.{bytes_eq}
@@ -28,7 +28,7 @@ use Rattle.binding.proofs.LimitLaws.{over_filtered}
 use Rattle.binding.proofs.PlaceLaws.{at_place, listed_is, position_is, position_none}
 use Rattle.binding.proofs.ToldOnce.{told_once}
 
--- what is held exceeds a limit at a contract, by the contract's id
+-- holdings exceed a limit at a contract, given by its id
 abbrev pub exceeds_by_id : Limit → List (List ℕ) → List Holding → List ℕ → Bool
 exceeds_by_id limit.Net ids holdings contract = is_over_at (position_or_len (bytes_eq contract) ids) holdings
 exceeds_by_id limit.Held ids holdings contract = are_many holdings
@@ -49,7 +49,7 @@ module _ (ids : List (List ℕ)) (holdings : List Holding) (contract : List ℕ)
       nowhere limit.Held = refl
 
 module _ (contracts : List Contract) (positions : List PositionRecord) (held : List ℕ → List Holding) where
-  -- the faults by what each account holds
+  -- the faults, from the holdings of each account
   abbrev pub faults_by : List BindFault
   faults_by =
       owner_faults (λ (p : PositionRecord). p.account) (λ p. p.contract) fault.UnknownContract fault.NetOutOfRange fault.TooManyHeld
@@ -59,7 +59,7 @@ module _ (contracts : List Contract) (positions : List PositionRecord) (held : L
   abbrev exceeding : Limit → PositionRecord → Bool
   exceeding l p = exceeds_by_id l (ids_of contracts) (held p.account) p.contract
 
-  -- records that are told alike exceed a limit together
+  -- if one of two records that are reported as one exceeds a limit, both do
   alike : (l : Limit) (x p : PositionRecord) → same_told l x p ≡ true → exceeding l p ≡ true → exceeding l x ≡ true
   alike limit.Net x p same e =
       let parts = and_parts (bytes_eq x.account p.account) (bytes_eq x.contract p.contract) same in
@@ -102,7 +102,7 @@ module _ (contracts : List Contract) (positions : List PositionRecord) (held : L
         told_once (fault_of l) (is_known contracts) (exceeding l)
         (exceeds l (ids_of contracts) (accounts_of positions) excesses) (same_told l) (alike l) positions (exceeds_is l)
 
-    -- the faults that are found are these
+    -- the found faults are these faults
     pub found_are : (unknown : List BindFault) → unknown ≡ foreign_faults (ids_of contracts) positions
         → found_faults (ids_of contracts) unknown excesses positions ≡ faults_by
     unfolding found_faults foreign_faults

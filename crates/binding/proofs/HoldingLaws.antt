@@ -1,4 +1,4 @@
--- Laws that tie what the binding computes to the definitions.
+-- Lemmas that connect the code of binding to the definitions.
 use Rattle.std.proofs.Common.{◌≡◌, ℕ, zero, suc, ◌+◌, ◌⊎◌, Bool, true, false, cond, not, ◌&&◌, List, []}
 use Rattle.std.proofs.Common.{◌∷◌, length, filter, map, Some, slice_get, refl, sym, ap, subst, ◌∙◌, inl, inr, arith}
 use Rattle.std.specs.Prelude.{ℤ, pos, ◌+ℤ◌, bytes_eq, ◌==◌}
@@ -34,7 +34,7 @@ eqb_up a b = by (cases_eq a b)
     by (inl e) = eq-eqb (1 + a) (suc b) (omega (arith, e)) ∙ sym (eq-eqb a b e)
     by (inr n) = ne_eqb (1 + a) (suc b) (λ e. n (omega (arith, e))) ∙ sym (ne_eqb a b n)
 
--- a name has a number just where it is the id of the contract of that number
+-- a name has number k exactly if it is the id of contract k
 pub number_is : (contracts : List Contract) (name : List ℕ) (k : ℕ) (x : Contract)
     → has_repeat (λ y z. bytes_eq y.id z.id) contracts ≡ false → slice_get contracts k ≡ Some x
     → (position_or_len (bytes_eq name) (ids_of contracts) == k) ≡ bytes_eq name x.id
@@ -60,7 +60,7 @@ number_is (y ∷ contracts) name (suc k) x h e = by (bytes_eq name y.id) refl (n
         ne_eqb 0 (suc k) (λ z. omega (arith, z)) ∙ sym other
     by false t more = eqb_up rest k ∙ more
 
--- the net of an account's entries in the contract of a number
+-- the net of an account's entries in contract k
 pub net_is : (contracts : List Contract) (account : List ℕ) (k : ℕ) (x : Contract)
     → has_repeat (λ y z. bytes_eq y.id z.id) contracts ≡ false → slice_get contracts k ≡ Some x
     → (positions : List PositionRecord) → net_of positions account x.id
@@ -101,7 +101,7 @@ same_holdings net es a (x ∷ xs) h =
     ap (λ n. net n y) up ∙ h (suc k) y e ∙ ap (entry_net es) (sym up)) in
     λ i. (let it : Holding = record { contract = a; net = here i } in it) ∷ rest i
 
--- what is held by nets that are those of entries
+-- holdings from nets that equal the nets of entries
 pub held_by_entries : (net : ℕ → Contract → ℤ) (es : List Entry) (contracts : List Contract)
     → ((k : ℕ) (x : Contract) → slice_get contracts k ≡ Some x → net k x ≡ entry_net es k)
     → held_of_all net 0 contracts ≡ entry_holdings (length contracts) es
@@ -110,7 +110,7 @@ held_by_entries net es contracts h =
     ap (filter is_held) (same_holdings net es 0 contracts (λ k x e.
     let same : k ≡ 0 + k = omega arith in ap (λ n. net n x) (sym same) ∙ h k x e ∙ ap (entry_net es) same))
 
--- what an account holds is what its entries hold
+-- an account's holdings are the holdings of its entries
 pub holdings_are : (contracts : List Contract) (positions : List PositionRecord) (account : List ℕ)
     → has_repeat (λ y z. bytes_eq y.id z.id) contracts ≡ false
     → holdings_of contracts positions account ≡ entry_holdings (length contracts) (entries_of (ids_of contracts) positions account)

@@ -1,4 +1,4 @@
--- Laws of the ids of contracts that stand apart.
+-- Lemmas about distinct contract ids.
 use Rattle.std.proofs.Common.{◌≡◌, ℕ, zero, suc, ◌+◌, ◌<◌, ◌||◌, false, cond, List, []}
 use Rattle.std.proofs.Common.{◌∷◌, ◌++◌, ◌≤◌, length, get_or, map, take, refl, sym, ap, subst, ◌∙◌, arith}
 use Rattle.std.specs.Prelude.{bytes_eq}
@@ -15,7 +15,7 @@ use Rattle.binding.specs.near.Ledgers.{AreNumbers}
 use Rattle.binding.specs.near.Samples.{contract_of}
 use Rattle.binding.proofs.AccountLaws.{bytes_eq-flip}
 
--- no id before a contract is that contract's
+-- no earlier contract has the id of a contract
 new_id : (contracts : List Contract) (i : ℕ) (d : Contract) → has_repeat (λ x y. bytes_eq x.id y.id) contracts ≡ false
     → i < length contracts
     → list_any (bytes_eq (get_or contracts i d).id) (ids_of (take i contracts)) ≡ false
@@ -31,7 +31,7 @@ new_id (x ∷ contracts) (suc i) d h lt =
     or_from (bytes_eq y.id x.id) (list_any (bytes_eq y.id) (ids_of (take i contracts))) (bytes_eq-flip y.id x.id ∙ other)
     (new_id contracts i d parts.1 within)
 
--- the next id goes last
+-- the next id is appended
 pub next_id : (contracts : List Contract) (i : ℕ) (d : Contract) (keys : List (List ℕ))
     → has_repeat (λ x y. bytes_eq x.id y.id) contracts ≡ false → i < length contracts
     → keys ≡ ids_of (take i contracts) → insert_key bytes_eq keys (get_or contracts i d).id ≡ ids_of (take (i + 1) contracts)
@@ -46,18 +46,18 @@ any_ids : (name : List ℕ) (contracts : List Contract)
 any_ids name [] = refl
 any_ids name (y ∷ contracts) = ap (λ b. bytes_eq name y.id || b) (any_ids name contracts)
 
--- contracts stand apart by their ids just where the ids do
+-- contracts are distinct by id exactly if their ids are distinct
 pub ids_apart : (contracts : List Contract)
     → has_repeat (λ x y. bytes_eq x.id y.id) contracts ≡ has_repeat bytes_eq (ids_of contracts)
 ids_apart [] = refl
 ids_apart (x ∷ contracts) = let here = any_ids x.id contracts in let rest = ids_apart contracts in λ i. here i || rest i
 
--- contracts with ids that stand apart do so by these
+-- contracts with distinct ids are distinct by id
 pub apart_by_ids : (contracts : List Contract) (ids : List (List ℕ)) → ids_of contracts ≡ ids → has_repeat bytes_eq ids ≡ false
     → has_repeat (λ x y. bytes_eq x.id y.id) contracts ≡ false
 apart_by_ids contracts ids are apart = ids_apart contracts ∙ ap (has_repeat bytes_eq) are ∙ apart
 
--- some contracts have these ids
+-- contracts with these ids
 pub contracts_of : List (List ℕ) → List Contract
 contracts_of ids = map contract_of ids
 
@@ -66,7 +66,7 @@ unfolding contracts_of
 contracts_of_are [] = refl
 contracts_of_are (id ∷ ids) = ap (λ rest. id ∷ rest) (contracts_of_are ids)
 
--- the ids of contracts of tables are such as positions are bound to
+-- the ids of the contracts of tables are valid for binding
 pub numbers_of : (contracts : List Contract) → has_repeat (λ x y. bytes_eq x.id y.id) contracts ≡ false
     → length contracts ≤ MAX_CONTRACTS → AreNumbers (ids_of contracts)
 numbers_of contracts apart few = record {

@@ -1,4 +1,4 @@
--- What the nets as they are kept say of the nets.
+-- Properties that stored nets share with the exact nets.
 use Rattle.std.proofs.Common.{◌≡◌, ℕ, suc, ◌+◌, ◌≤◌, Bool, true, false, cond, ◌||◌, ◌&&◌, List, []}
 use Rattle.std.proofs.Common.{◌∷◌, map, Option, Some, None, refl, sym, ap, subst, ◌∙◌, arith}
 use Rattle.std.specs.Prelude.{All, nat_abs, nat_lt, pos, ◌==◌}
@@ -23,7 +23,7 @@ pub kept_rise : (hs : List Holding) → IsStrictlyIncreasing (map (λ h. h.contr
     → IsStrictlyIncreasing (map (λ h. h.contract) (map kept_holding hs))
 kept_rise hs rise = subst IsStrictlyIncreasing (sym (kept_contracts hs)) rise
 
--- a net is over the limit as it is kept just where it is
+-- a stored net is over the limit exactly if the net is
 over_kept : (h : Holding) → is_over (kept_holding h) ≡ is_over h
 over_kept h = by (is_over h) refl
   where
@@ -41,14 +41,14 @@ over_at_kept c (h ∷ hs) =
 many_kept : (hs : List Holding) → are_many (map kept_holding hs) ≡ are_many hs
 many_kept hs = ap (nat_lt MAX_HELD) (length-map hs kept_holding)
 
--- so a limit is exceeded by the nets as they are kept just where it is by the nets
+-- stored nets exceed a limit exactly if the nets do
 pub in_kept : (l : Limit) (c : Option ℕ) (hs : List Holding)
     → exceeds_in l c (excess_of (map kept_holding hs)) ≡ exceeds_in l c (excess_of hs)
 in_kept limit.Net (Some c) hs = over_filtered c (map kept_holding hs) ∙ over_at_kept c hs ∙ sym (over_filtered c hs)
 in_kept limit.Held (Some c) hs = many_kept hs
 in_kept _ None hs = refl
 
--- nets within the limit are kept as they are
+-- a net within the limit is stored unchanged
 pub kept_same : (h : Holding) → nat_abs h.net ≤ MAX_NET → kept_holding h ≡ h
 kept_same h within =
     let e : nat_lt MAX_NET (nat_abs h.net) ≡ false = le-ltb MAX_NET (nat_abs h.net) (omega (arith, within)) in

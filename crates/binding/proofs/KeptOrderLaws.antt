@@ -1,4 +1,4 @@
--- Orders as they are kept: their accounts' places, and what their accounts hold with them.
+-- Stored orders: the indexes of their accounts, and the holdings of their accounts with them.
 use Rattle.std.proofs.Common.{◌≡◌, ℕ, suc, zero, ◌+◌, ◌<◌, ◌≤◌, ◌⊎◌, inl, inr, Bool, true, false, cond, not, List, [], ◌∷◌, ◌++◌, length}
 use Rattle.std.proofs.Common.{get_or, drop, map, take, Option, Some, None, position, refl, sym, ap, subst, ◌∙◌, arith}
 use Rattle.std.specs.Prelude.{bytes_eq, nat_lt, option_map, unwrap_or, zip, All}
@@ -20,9 +20,9 @@ use Rattle.binding.specs.near.Orders.{portfolio_before, HasPlace}
 use Rattle.binding.specs.declared.ledgers.Entry.{Entry}
 use Rattle.binding.specs.declared.orders.kept_orders.KeptOrder.{KeptOrder}
 
--- ---- places
+-- ---- indexes
 
--- the place behind an element that fails is one more
+-- after a first element that fails the test, the index is one more
 position_behind : {X : Type 0} (test : X → Bool) (x : X) (xs : List X) → test x ≡ false
     → position test (x ∷ xs) ≡ option_map (λ n. 1 + n) (position test xs)
 position_behind test x xs e = by (cases_lt (position_or_len test xs) (length xs))
@@ -49,7 +49,7 @@ position_here test x xs e =
     ap (λ b. (let m = cond (not b) (1 + position_or_len test xs) 0 in cond (nat_lt m (suc (length xs))) (Some m) None)) e
     ∙ ap (λ b. cond b (Some 0) None) (lt-ltb 0 (suc (length xs)) (omega arith))
 
--- a place among some elements is one among more, and the next element has the next
+-- an index stays the same when an element is appended; the appended element has the next index
 position_push : {X : Type 0} (test : X → Bool) (xs : List X) (y : X)
     → position test (xs ++ y ∷ []) ≡ option_or (position test xs) (cond (test y) (Some (length xs)) None)
 position_push test [] y = by (test y) refl
@@ -74,7 +74,7 @@ position_push test (x ∷ xs) y = by (test x) refl (position_push test xs y)
         position_behind test x (xs ++ y ∷ []) e ∙ ap (option_map (λ n. 1 + n)) more ∙ up (position test xs) (test y)
         ∙ ap (λ o. option_or o (cond (test y) (Some (suc (length xs))) None)) (sym (position_behind test x xs e))
 
--- the places of accounts, with one more account that has a place or not
+-- the indexes of accounts with one more account, which is new or already has an index
 module _ (place_of : List ℕ → Option ℕ) (account : List ℕ) (i : ℕ) where
   none_behind : (o : Option ℕ) → o ≡ option_or o None
   none_behind (Some n) = refl
@@ -100,7 +100,7 @@ module _ (place_of : List ℕ → Option ℕ) (account : List ℕ) (i : ℕ) whe
           there ∙ ap (λ o. option_or o (Some i)) (sym there)
       by false e = none_behind (place_of name)
 
--- the places of accounts with the next portfolio
+-- the indexes of accounts after the next portfolio
 pub place_push : (portfolios : List AccountHoldings) (i : ℕ) (p : AccountHoldings) → i < length portfolios → p ≡ get_or portfolios i p
     → (name : List ℕ) → place_among (take (i + 1) portfolios) name
     ≡ option_or (place_among (take i portfolios) name) (cond (bytes_eq p.account name) (Some i) None)
@@ -127,7 +127,7 @@ module _ (portfolios : List AccountHoldings) (name : List ℕ) where
   unfolding n test
   not_found ge = ap (λ b. cond b (Some n) None) (le-ltb n (length portfolios) ge)
 
-  -- its place is one of a portfolio
+  -- its index, if it has one, is the index of a portfolio
   pub place_there : HasPlace portfolios (account_at (place_among portfolios name) name)
   place_there = by (cases_lt n (length portfolios))
     where
@@ -135,7 +135,7 @@ module _ (portfolios : List AccountHoldings) (name : List ℕ) where
       by (inl lt) = subst (λ o. HasPlace portfolios (account_at o name)) (sym (found lt)) lt
       by (inr ge) = subst (λ o. HasPlace portfolios (account_at o name)) (sym (not_found ge)) tt
 
-  -- without the order it holds what it holds among the portfolios
+  -- without the order the account has its holdings among the portfolios
   pub before_is : portfolio_before portfolios (account_at (place_among portfolios name) name)
       ≡ record { account = name; holdings = holdings_among portfolios name }
   unfolding n test
@@ -201,7 +201,7 @@ kept_more portfolios names accounts ledgers i name account entries lt lt' many a
     ∙ ap (λ xs. all_kept_as portfolios (take (i + 1) names) xs (ledgers ++ entries ∷ [])) (sym (taken accounts i account lt' at'))
     ∙ ap (λ n. all_kept_as portfolios (take n names) (take n accounts) (ledgers ++ entries ∷ [])) count
 
--- orders of names that tell their account and their entries
+-- stored orders whose account and entries are functions of the order's name
 pub kept_of_names : (portfolios : List AccountHoldings) (account : List ℕ → List ℕ) (entries : List ℕ → List Entry) (names : List (List ℕ))
     → all_kept_as portfolios names (map account names) (map entries names)
     ≡ map (λ name. kept_as portfolios ((name, account name), entries name)) names
@@ -216,12 +216,12 @@ each_place portfolios (o ∷ os) =
     All-cons (λ (x : KeptOrder). HasPlace portfolios x.account) (kept_as portfolios o) (map (kept_as portfolios) os)
     (place_there portfolios o.0.1) (each_place portfolios os)
 
--- each order's account has its place
+-- the account of each order has a valid index
 pub all_have_places : (portfolios : List AccountHoldings) (names accounts : List (List ℕ)) (ledgers : List (List Entry))
     → All (λ (o : KeptOrder). HasPlace portfolios o.account) (all_kept_as portfolios names accounts ledgers)
 all_have_places portfolios names accounts ledgers = each_place portfolios (zip (zip names accounts) ledgers)
 
--- what is held with some of the orders, from one on
+-- the holdings with each order of a range
 pub afters_are : (contracts : ℕ) (portfolios : List AccountHoldings) (orders : List KeptOrder) (first count : ℕ)
     → map (λ o. (kept_order contracts portfolios o).after) (take count (drop first orders))
     ≡ map (λ o. o.after) (take count (drop first (map (kept_order contracts portfolios) orders)))

@@ -1,4 +1,4 @@
--- The records of a list that pass a test, where all do.
+-- The records of a list that pass a test, if all of them pass.
 use Rattle.std.proofs.Common.{◌≡◌, ℕ, ◌<◌, Bool, true, false, not, ◌&&◌, List, [], ◌∷◌, filter, length, get_or, take, drop}
 use Rattle.std.proofs.Common.{Some, None, refl, sym, ap, ◌∙◌}
 use Rattle.std.specs.Prelude.{if◌then◌else◌}
@@ -9,7 +9,7 @@ use Rattle.std.proofs.lemmas.List.Folds.{list_any-append, list_any_at}
 use Rattle.binding.specs.Binding.{all_unfit_by}
 use Rattle.binding.proofs.AllFaults.{all_faults_same}
 
--- where each element passes a test, those that pass are all
+-- if each element passes a test, the filtered list is the whole list
 pub all_pass : {X : Type 0} (test : X → Bool) (xs : List X) → list_any (λ x. not (test x)) xs ≡ false → filter test xs ≡ xs
 all_pass test [] h = refl
 all_pass test (x ∷ xs) h =
@@ -19,7 +19,7 @@ all_pass test (x ∷ xs) h =
 
 module _ {R F : Type 0} (name_of : R → List ℕ) (fault : ℕ → List ℕ → F) (known : R → Bool) (records : List R)
     (all : list_any (λ r. not (known r)) records ≡ false) where
-  -- those before a place pass
+  -- the elements before index i all pass
   known_before : (i : ℕ) → filter known (take i records) ≡ take i records
   known_before i =
       all_pass known (take i records)
@@ -33,7 +33,7 @@ module _ {R F : Type 0} (name_of : R → List ℕ) (fault : ℕ → List ℕ →
       (false_from_ne_true (not (known (get_or records i d)))
       (λ e. true≢false (sym (list_any_at (λ r. not (known r)) records i d lt e) ∙ all)))
 
-  -- a test among those that pass is one of all
+  -- a test among the elements that pass is the same test among all elements
   pub among_all : (test : List R → R → Bool)
       → all_unfit_by name_of fault (λ earlier r. known r && test (filter known earlier) r) records
       ≡ all_unfit_by name_of fault test records

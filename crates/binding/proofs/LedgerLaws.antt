@@ -1,4 +1,4 @@
--- Laws of the ledger, record by record.
+-- Lemmas about the ledgers, record by record.
 use Rattle.std.proofs.Common.{◌≡◌, ℕ, ◌+◌, ◌<◌, ◌≤◌, Bool, true, false, cond, List, [], ◌∷◌, ◌++◌, length, get_or}
 use Rattle.std.proofs.Common.{map, replicate, set, take, Some, None, slice_get, refl, sym, ap, subst, ◌∙◌, arith}
 use Rattle.std.specs.Prelude.{All, bytes_eq}
@@ -19,7 +19,7 @@ use Rattle.binding.specs.near.Nets.{entry_of, entries_of}
 use Rattle.binding.specs.declared.ledgers.Entry.{Entry}
 use Rattle.binding.proofs.AccountLaws.{entered, entries_push}
 
--- what the entry of a record says of its contract
+-- a record without an entry is of an unknown contract
 pub foreign_from_none : (ids : List (List ℕ)) (p : PositionRecord) → None ≡ known_entry ids p.contract p.quantity
     → is_foreign ids p ≡ true
 unfolding known_entry
@@ -38,7 +38,7 @@ known_from_some ids p e h = by (is_foreign ids p) h
     by true h = cc
     by false h = (refl, cc)
 
--- what is seen at a place of the positions: the record there, and its account's name
+-- the record at index i of the positions, and the name of its account
 pub record IsSeen (positions : List PositionRecord) (i : ℕ) (p : PositionRecord) (name : List ℕ) : Type 0 where
   pub within : i < length positions
   pub at : p ≡ get_or positions i p
@@ -50,7 +50,7 @@ listed_more : (ids : List (List ℕ)) (front : List PositionRecord) (p : Positio
 listed_more ids front p b e =
     filter-append (is_listed ids) front (p ∷ []) ∙ ap (λ (t : Bool). listed_records ids front ++ cond t (p ∷ []) []) e
 
--- accounts stand apart
+-- accounts are distinct
 pub apart : (positions : List PositionRecord) → has_repeat bytes_eq (accounts_of positions) ≡ false
 apart positions = distinct_once (map (λ (p : PositionRecord). p.account) positions)
 
@@ -62,14 +62,14 @@ module _ (positions : List PositionRecord) (records : List NumberedPosition)
   pub as_many : length records ≡ length positions
   as_many = sym (length-map records (named_position (accounts_of positions))) ∙ ap length named
 
-  -- the record that a numbered one stands for is at its place
+  -- the position of a numbered record is at the same index
   pub record_at : (i : ℕ) (r : NumberedPosition) → i < length records → r ≡ get_or records i r
       → named_position (accounts_of positions) r ≡ get_or positions i (named_position (accounts_of positions) r)
   record_at i r lt at =
       let f = named_position (accounts_of positions) in
       ap f at ∙ sym (get_or-map f records i r (f r) lt) ∙ ap (λ ps. get_or ps i (f r)) named
 
-  -- the number of a numbered record is that of one of the accounts
+  -- the account number of a numbered record is the number of one of the accounts
   pub number_within : (i : ℕ) (r : NumberedPosition) → i < length records → r ≡ get_or records i r
       → r.account < length (accounts_of positions)
   number_within i r lt at = subst (λ (p : NumberedPosition). p.account < length (accounts_of positions)) (sym at) (known i r lt)
@@ -78,14 +78,14 @@ module _ (positions : List PositionRecord) (records : List NumberedPosition)
       → slice_get (accounts_of positions) r.account ≡ Some (get_or (accounts_of positions) r.account [])
   account_at i r lt at = slice_get-get_or (accounts_of positions) r.account [] (number_within i r lt at)
 
-  -- what is read at the number of an account is its name
+  -- the name at an account's number is the name of the account
   pub account_is : (i : ℕ) (r : NumberedPosition) (names : List (List ℕ)) (name : List ℕ) → i < length records
       → r ≡ get_or records i r
       → names ≡ accounts_of positions → name ≡ get_or names r.account name → name ≡ get_or (accounts_of positions) r.account []
   account_is i r names name lt at are is =
       is ∙ ap (λ ns. get_or ns r.account name) are ∙ get_or_default (accounts_of positions) r.account name [] (number_within i r lt at)
 
-  -- the copied name of the account of a numbered record is seen at the place of the record
+  -- the copied account name of a numbered record is the name at the record's index
   pub seen : (i : ℕ) (r : NumberedPosition) (names : List (List ℕ)) (name copied : List ℕ) → i < length records
       → r ≡ get_or records i r → names ≡ accounts_of positions → name ≡ get_or names r.account name → copied ≡ name
       → IsSeen positions i (named_position (accounts_of positions) r) copied
@@ -95,23 +95,23 @@ module _ (positions : List PositionRecord) (records : List NumberedPosition)
     named = same ∙ account_is i r names name lt at are is;
   }
 
-  -- the record itself is seen there, under its account's name
+  -- the record itself is at that index, under the name of its account
   pub record_seen : (i : ℕ) (r : NumberedPosition) → i < length records → r ≡ get_or records i r
       → IsSeen positions i (named_position (accounts_of positions) r) (get_or (accounts_of positions) r.account [])
   record_seen i r lt at = record { within = omega (arith, lt, as_many); at = record_at i r lt at; named = refl }
 
-  -- behind all records there is no position
+  -- after the last record there is no position
   pub all_seen : (i : ℕ) → length records ≤ i → length positions ≤ i
   all_seen i past = omega (arith, past, as_many)
 
-  -- the records up to the one at a place
+  -- the records up to and including index i
   pub taken_next : (i : ℕ) (r : NumberedPosition) → i < length records → r ≡ get_or records i r
       → take (i + 1) positions ≡ take i positions ++ named_position (accounts_of positions) r ∷ []
   taken_next i r lt at =
       take_more positions i (named_position (accounts_of positions) r) (omega (arith, lt, as_many))
       ∙ ap (λ z. take i positions ++ z ∷ []) (sym (record_at i r lt at))
 
-  -- the ledgers after the record at a place, whose contract is among the ids
+  -- the ledgers after the record at index i, whose contract is among the ids
   pub ledgers_step : (ids : List (List ℕ)) (i : ℕ) (r : NumberedPosition) (ledgers ledgers' : List (List Entry)) (e : Entry)
       → i < length records → r ≡ get_or records i r
       → ledgers ≡ map (entries_of ids (listed_records ids (take i positions))) (accounts_of positions)
@@ -136,7 +136,7 @@ module _ (positions : List PositionRecord) (records : List NumberedPosition)
       (number_within i r lt at) (omega arith))
       ∙ ap (λ ps. map (entries_of ids ps) (accounts_of positions)) (sym next)
 
-  -- the ledgers stay at a record whose contract is not among the ids
+  -- a record whose contract is not among the ids does not change the ledgers
   pub foreign_step : (ids : List (List ℕ)) (i : ℕ) (r : NumberedPosition) (ledgers : List (List Entry)) → i < length records
       → r ≡ get_or records i r → ledgers ≡ map (entries_of ids (listed_records ids (take i positions))) (accounts_of positions)
       → is_foreign ids (named_position (accounts_of positions) r) ≡ true
@@ -149,7 +149,7 @@ module _ (positions : List PositionRecord) (records : List NumberedPosition)
       ∙ listed_more ids (take i positions) p false (not-true (is_listed ids p) foreign)
       ∙ append-nil (listed_records ids (take i positions))))
 
--- no entry at first
+-- at first there are no entries
 pub no_entries : (ids : List (List ℕ)) (accounts : List (List ℕ))
     → replicate (length accounts) [] ≡ map (entries_of ids []) accounts
 no_entries ids [] = refl

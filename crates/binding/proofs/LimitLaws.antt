@@ -1,4 +1,4 @@
--- Laws of the faults found in the nets of all accounts.
+-- Lemmas about the faults found in the nets of all accounts.
 use Rattle.std.proofs.Common.{◌≡◌, ℕ, zero, suc, ◌+◌, Bool, true, false, cond, ◌&&◌, ◌||◌, List}
 use Rattle.std.proofs.Common.{[], ◌∷◌, filter, length, get_or, take, Option, Some, None, position, refl, sym, ap, ◌∙◌}
 use Rattle.std.specs.Prelude.{bytes_eq, ◌==◌}
@@ -23,7 +23,7 @@ use Rattle.binding.proofs.LedgerLaws.{IsSeen}
 use Rattle.binding.proofs.FilterMaps.{list_any-same}
 use Rattle.binding.proofs.UnfitWalk.{unfit_at}
 
--- where no element has a fault, there are none
+-- if no element has a fault, the list of faults is empty
 no_faults : {A F : Type 0} (fault_of : List A → A → Option (ℕ → F)) → ((earlier : List A) (x : A) → fault_of earlier x ≡ None)
     → (earlier xs : List A) → faults_after fault_of earlier xs ≡ []
 no_faults fault_of none earlier [] = refl
@@ -32,7 +32,7 @@ no_faults {F} fault_of none earlier (x ∷ xs) =
     (none earlier x)
     ∙ no_faults fault_of none (earlier ++ x ∷ []) xs
 
--- where no net is over the limit, none is at any place
+-- if no net is over the limit, no net is over it at any contract number
 none_over_in : (c : ℕ) (holdings : List Holding) → list_any is_over holdings ≡ false → is_over_at c holdings ≡ false
 none_over_in c [] e = refl
 none_over_in c (h ∷ holdings) e =
@@ -40,7 +40,7 @@ none_over_in c (h ∷ holdings) e =
     or_from ((h.contract == c) && is_over h) (is_over_at c holdings) (and_right (h.contract == c) (is_over h) parts.0)
     (none_over_in c holdings parts.1)
 
--- a net is over the limit at a place just where it is among those that are over it
+-- a net is over the limit at a contract number exactly if it is so among the nets that are over it
 pub over_filtered : (c : ℕ) (holdings : List Holding) → is_over_at c (filter is_over holdings) ≡ is_over_at c holdings
 over_filtered c [] = refl
 over_filtered c (h ∷ holdings) = by (is_over h) refl (over_filtered c holdings)
@@ -61,7 +61,7 @@ none_in limit.Net (Some c) excess e = none_over_in c excess.over e
 none_in limit.Held (Some c) excess e = e
 none_in _ None excess e = refl
 
--- nothing that is held exceeds no limit
+-- an account without holdings exceeds no limit
 pub none_held : (l : Limit) (c : Option ℕ) → exceeds_in l c (excess_of []) ≡ false
 none_held l c = none_in l c (excess_of []) (nothing_exceeds l)
 
@@ -83,7 +83,7 @@ module _ (l : Limit) (ids accounts : List (List ℕ)) (excesses : List Excess) w
       and_right (not (list_any (λ x. same_told l x p && exceeds l ids accounts excesses x) earlier)) (exceeds l ids accounts excesses p)
       (none_at l (position (bytes_eq p.account) accounts) (position (bytes_eq p.contract) ids) excesses e)
 
--- where what no account holds exceeds the limit
+-- if no account's holdings exceed the limit, there are no faults
 pub limit_faults-none : (l : Limit) (ids : List (List ℕ)) (excesses : List Excess) (positions : List PositionRecord)
     → list_any (exceeds_any l) excesses ≡ false → limit_faults l ids excesses positions ≡ []
 unfolding limit_faults
@@ -98,21 +98,21 @@ module _ (l : Limit) (ids accounts : List (List ℕ)) (excesses : List Excess) (
   told_alike limit.Net x p = refl
   told_alike limit.Held x p = and-true (bytes_eq x.account p.account)
 
-  -- a record that exceeds the limit is one like this
+  -- the record exceeds the limit, and t is its key
   abbrev pub is_member : Told → PositionRecord → Bool
   is_member t x = is_same_told (told_as l x.account x.contract) t && exceeds l ids accounts excesses x
 
   module _ (i : ℕ) (p : PositionRecord) (name : List ℕ) (seen : IsSeen positions i p name) (told : List Told)
       (members : (t : Told) → is_told told t ≡ list_any (is_member t) (take i positions)) (over : Bool)
       (is : over ≡ exceeds l ids accounts excesses p) where
-    -- what is told so far says whether the record exceeds the limit anew
+    -- the values reported so far decide whether the record is the first to exceed the limit
     pub anew_is : (not (is_told told (told_as l name p.contract)) && over) ≡ exceeds_anew l ids accounts excesses (take i positions) p
     anew_is =
         let here = ap (λ n. is_told told (told_as l n p.contract)) seen.named ∙ members (told_as l p.account p.contract)
         ∙ list_any-same _ _ (λ x. ap (λ b. b && exceeds l ids accounts excesses x) (told_alike l x p)) (take i positions) in
         λ k. not (here k) && is k
 
-    -- what is told with the record
+    -- the reported values after the record
     pub members_next : (now : List Told)
         → ((t : Told) → is_told now t ≡ (is_told told t || (is_same_told (told_as l name p.contract) t && over)))
         → (t : Told) → is_told now t ≡ list_any (is_member t) (take (i + 1) positions)

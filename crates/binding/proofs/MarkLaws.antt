@@ -1,4 +1,4 @@
--- Laws of sums by contract number, of which a mark says whether anything was added.
+-- Lemmas about sums by contract number. A mark (a bit) for each number records whether anything was added.
 use Rattle.std.proofs.Common.{◌≡◌, ℕ, zero, suc, ◌+◌, ◌-◌, ◌*◌, ◌/◌, ◌%◌, ◌^◌, ◌<◌}
 use Rattle.std.proofs.Common.{◌≤◌, ◌⊎◌, Bool, true, false, cond, ◌||◌, ◌==◌, List, [], ◌∷◌}
 use Rattle.std.proofs.Common.{◌++◌, length, get_or, set, map, bit_and, bit_or, refl, sym, ap, ◌∙◌, inl, inr, arith}
@@ -18,7 +18,7 @@ use Rattle.binding.specs.near.Sums.{is_marked, sum_at, sums_of, AreMarks, held_b
 use Rattle.span_tables.specs.declared.portfolios.Holding.{Holding}
 use Rattle.binding.proofs.NetLaws.{is_held-eq}
 
--- the marks of no number
+-- a word without marks
 nothing : ℕ
 nothing = 0
 
@@ -33,7 +33,7 @@ unfolding nothing
 none_marked m k = ap (λ n. bit_at n (k % 64) == 1) (zeros m (k / 64)) ∙ ap (λ n. n == 1) (bit_at-zero (k % 64))
 
 module _ (marks : List ℕ) (places : List ℤ) where
-  -- the sums' places
+  -- the number of sums
   pub sums_long : length (sums_of marks places) ≡ length places
   unfolding sums_of
   sums_long = length-map-range_with_len (sum_at marks places) 0 (length places)
@@ -42,11 +42,11 @@ module _ (marks : List ℕ) (places : List ℤ) where
   unfolding sums_of
   sums_at k d h = get_or-map-range_with_len (sum_at marks places) 0 (length places) k k d h (omega arith)
 
--- the sums that a value shows are as many as its places
+-- there are as many sums as slots
 pub long_as : (marks : List ℕ) (places : List ℤ) {sums : List ℤ} → sums_of marks places ≡ sums → length sums ≡ length places
 long_as marks places is = sym (ap length is) ∙ sums_long marks places
 
--- with no mark, each sum is 0
+-- without marks each sum is 0
 pub sums_clear : (m : ℕ) (places : List ℤ) → sums_of (replicate m 0) places ≡ replicate (length places) (pos 0)
 unfolding sums_of
 sums_clear m places = by (length places) 0
@@ -62,7 +62,7 @@ or_true : (b : Bool) → (b || true) ≡ true
 or_true true = refl
 or_true false = refl
 
--- a sum that is written, with its mark
+-- the sums after one sum is written and marked
 pub sums_set : (marks next : List ℕ) (places : List ℤ) (c : ℕ) (z : ℤ) → c < length places
     → ((k : ℕ) → is_marked next k ≡ (is_marked marks k || (k == c)))
     → sums_of next (set places c z) ≡ set (sums_of marks places) c z
@@ -98,7 +98,7 @@ sums_set marks next places c z lt marked = same_lists _ _ size (λ k d h. by k d
         ∙ sym (sums_at marks places k d h)
         ∙ sym (get_or-set_other (sums_of marks places) c k z d other)
 
--- the marks with one more
+-- the marks after one more is set
 pub mark_set : (marks : List ℕ) (c w : ℕ) → c / 64 < length marks → w ≡ get_or marks (c / 64) 0
     → (k : ℕ) → is_marked (set marks (c / 64) (bit_or w (1 * 2 ^ (c % 64) % 2 ^ 64))) k ≡ (is_marked marks k || (k == c))
 mark_set marks c w lt is k = by (cases_eq (k / 64) (c / 64)) (cases_eq (k % 64) (c % 64))
@@ -130,7 +130,7 @@ mark_set marks c w lt is k = by (cases_eq (k / 64) (c / 64)) (cases_eq (k % 64) 
         ∙ sym (or-false (is_marked marks k))
         ∙ sym (ap (λ b. is_marked marks k || b) (ne_eqb k c (λ e. n (ap (λ j. j / 64) e))))
 
--- the marks with one more are marks of as many numbers
+-- setting one more mark keeps the marks valid
 pub marks_more : (marks : List ℕ) (c w n : ℕ) → c < n → c / 64 < length marks → w ≡ get_or marks (c / 64) 0 → AreMarks marks n
     → AreMarks (set marks (c / 64) (bit_or w (1 * 2 ^ (c % 64) % 2 ^ 64))) n
 marks_more marks c w n lt word is are = record {
@@ -142,7 +142,7 @@ marks_more marks c w n lt word is are = record {
     by k (inl same) e = omega (arith, same, lt)
     by k (inr other) e = are.within k (sym (or-false (is_marked marks k)) ∙ ap (λ b. is_marked marks k || b) (sym (ne_eqb k c other)) ∙ e)
 
--- sums of 0 hold nothing
+-- sums of 0 give no holdings
 pub holdings_skip : (sums : List ℤ) (a d : ℕ) → ((k : ℕ) → a ≤ k → k < a + d → get_or sums k (pos 0) ≡ pos 0)
     → holdings_from sums (a + d) ≡ holdings_from sums a
 holdings_skip sums a zero h = let same : a + 0 ≡ a = omega arith in ap (holdings_from sums) same
@@ -155,7 +155,7 @@ holdings_skip sums a (suc d) h =
     ∙ append-nil (holdings_from sums (a + d))
     ∙ holdings_skip sums a d (λ k x y. h k x (omega (arith, y)))
 
--- ---- the numbers of a word, from its lowest mark on
+-- ---- the numbers of a word, from its lowest mark up
 
 tz_zero : trailing_zeros w64 0 ≡ 64
 unfolding count_trailing_zeros
@@ -165,7 +165,7 @@ no_one : {P : Type 0} → nothing ≡ 1 → P
 unfolding nothing
 no_one e = cc
 
--- below the lowest mark there is none, and the lowest is among the 64
+-- no bit below the lowest mark is set, and the lowest mark is at most 64
 pub below_lowest : (n : ℕ) → n < 2 ^ 64 → (i : ℕ) → i < trailing_zeros w64 n → bit_at n i ≡ 0
 below_lowest n fits i h = by (cases_eq n 0)
   where
@@ -180,7 +180,7 @@ lowest_le n fits = by (cases_eq n 0)
     by (inl e) = let z : trailing_zeros w64 n ≡ 64 = ap (trailing_zeros w64) e ∙ tz_zero in omega (arith, z)
     by (inr ne) = let z = (bit_at-trailing_zeros w64 n (omega (arith, ne)) fits).0 in omega (arith, z)
 
--- without its lowest mark, a word's lowest is a higher one
+-- after a word's lowest mark is cleared, the lowest mark is higher
 pub next_lowest : (n m : ℕ) → 0 < n → n < 2 ^ 64 → m < 2 ^ 64
     → m ≡ bit_and n (bit_not w64 (1 * 2 ^ trailing_zeros w64 n % 2 ^ 64)) → trailing_zeros w64 n < trailing_zeros w64 m
 unfolding nothing
@@ -217,7 +217,7 @@ next_lowest n m some fits small is = by (cases_eq m 0)
         or_less (inl h) = h
         or_less (inr h) = absurd (at (trailing_zeros w64 m) refl h (cases_eq (trailing_zeros w64 m) t))
 
--- the other marks stay
+-- the other marks do not change
 pub cleared_same : (n m t i : ℕ) → t < 64 → m ≡ bit_and n (bit_not w64 (1 * 2 ^ t % 2 ^ 64)) → i < 64 → t < i
     → bit_at m i ≡ bit_at n i
 cleared_same n m t i within is h lt =
@@ -245,7 +245,7 @@ module _ (marks : List ℕ) (places : List ℤ) where
       → get_or (sums_of marks places) k (pos 0) ≡ get_or places k (pos 0)
   marked k h e = sums_at marks places k (pos 0) h ∙ ap (λ b. cond b (get_or places k (pos 0)) (pos 0)) e
 
-  -- places of a word without a mark hold nothing
+  -- numbers of a word without a mark give no holdings
   skip : (w a u : ℕ) → a ≤ u → u ≤ 64 → ((i : ℕ) → a ≤ i → i < u → bit_at (get_or marks w 0) i ≡ 0)
       → holdings_from (sums_of marks places) (64 * w + u) ≡ holdings_from (sums_of marks places) (64 * w + a)
   skip w a u le short none =
@@ -259,14 +259,14 @@ module _ (marks : List ℕ) (places : List ℤ) where
           let h : i < 64 = omega (arith, y, short) in
           unmarked k (ap (is_marked marks) is ∙ mark_at w i h ∙ ap (λ b. b == 1) (none i x y))
 
-  -- up to the lowest mark of a word nothing is held
+  -- the numbers below a word's lowest mark give no holdings
   pub word_begun : (w u : ℕ) → u ≤ 64 → ((i : ℕ) → i < u → bit_at (get_or marks w 0) i ≡ 0)
       → held_below marks places (64 * w + u) ≡ held_below marks places (64 * w)
   word_begun w u short none =
       let same : 64 * w + 0 ≡ 64 * w = omega arith in
       ap (map kept_holding) (skip w 0 u (omega arith) short (λ i x y. none i y) ∙ ap (holdings_from (sums_of marks places)) same)
 
-  -- from a mark to the next
+  -- from one mark to the next
   pub word_step : (w t u : ℕ) → t < u → u ≤ 64 → AreMarks marks (length places) → bit_at (get_or marks w 0) t ≡ 1
       → ((i : ℕ) → t < i → i < u → bit_at (get_or marks w 0) i ≡ 0)
       → held_below marks places (64 * w + u) ≡ held_below marks places (64 * w + t)
@@ -298,7 +298,7 @@ module _ (marks : List ℕ) (places : List ℤ) where
     unfolding t
     mark_is = sym (same t (omega arith) low) ∙ (bit_at-trailing_zeros w64 n some fits).1
 
-    -- the lowest mark that is left is that of a number that there is
+    -- the lowest remaining mark is the mark of an existing number
     pub lowest_marked : 64 * w + trailing_zeros w64 n < length places
     unfolding t
     lowest_marked = marked_within w t low are mark_is
@@ -325,12 +325,12 @@ module _ (marks : List ℕ) (places : List ℤ) where
           ∙ sym (word_step w t (trailing_zeros w64 m) up (lowest_le m small) are mark_is
           (λ i x y. let h : i < 64 = (let z = lowest_le m small in omega (arith, y, z)) in sym (stays i x h) ∙ below_lowest m small i y))
 
-  -- no mark is left
+  -- no mark remains
   pub word_done : (w n : ℕ) (held : List Holding) → n ≡ 0 → held ≡ held_below marks places (64 * w + trailing_zeros w64 n)
       → held ≡ held_below marks places (64 * w + 64)
   word_done w n held none is = is ∙ ap (λ j. held_below marks places (64 * w + j)) (ap (trailing_zeros w64) none ∙ tz_zero)
 
-  -- the sum of a number that is marked, and of one that is not, by the word of its mark
+  -- the sum of a number, marked or not, from the word with its mark
   pub sum_marked : (k word : ℕ) (n : ℤ) → k < length places → word ≡ get_or marks (k / 64) 0
       → (bit_at word (k % 64) == 1) ≡ true → n ≡ get_or places k (pos 0)
       → n ≡ get_or (sums_of marks places) k (pos 0)

@@ -1,4 +1,4 @@
--- What accounts hold with positions that come to it, within the limits.
+-- Holdings of an account with added positions, within the limits.
 use Rattle.std.proofs.Common.{◌≡◌, ℕ, ◌+◌, ◌≤◌, ◌⊎◌, inl, inr, Bool, false, cond, not, ◌&&◌, List, [], ◌∷◌, length, filter, Some}
 use Rattle.std.proofs.Common.{refl, sym, ap, ◌∙◌, arith}
 use Rattle.std.specs.Prelude.{ℤ, pos, ◌+ℤ◌, bytes_eq, nat_abs, nat_lt, slice_get}
@@ -21,7 +21,7 @@ use Rattle.binding.proofs.HoldingLaws.{number_is}
 use Rattle.binding.proofs.OrderLaws.{among_within, over_among}
 use Rattle.binding.proofs.PortfolioLaws.{all_rise, held_holds, within_from}
 
--- the number of a contract, by its id among the contracts
+-- the number of a contract, found by its id
 abbrev pub number_of : List Contract → List ℕ → ℕ
 number_of contracts name = position_or_len (λ x. bytes_eq x.id name) contracts
 
@@ -32,19 +32,19 @@ number_of_id (x ∷ contracts) name =
     ap (λ b. cond (not b) (1 + number_of contracts name) 0) (bytes_eq-flip x.id name)
     ∙ ap (λ n. cond (not (bytes_eq name x.id)) (1 + n) 0) (number_of_id contracts name)
 
--- the net in the contract of a name is over the limit
+-- the net in the contract with this name is over the limit
 abbrev pub is_over_in : List Contract → List Holding → List ℕ → Bool
 is_over_in contracts holdings name = nat_lt MAX_NET (nat_abs (net_among holdings (number_of contracts name)))
 
 module _ (contracts : List Contract) (before : List Holding) (more : List PositionRecord) (account : List ℕ) where
-  -- what the account holds with the positions that come
+  -- the holdings of the account with the added positions
   abbrev merged : List Holding
   merged = holdings_with contracts before more account
 
   abbrev merged_net : ℕ → Contract → ℤ
   merged_net k x = net_among before k +ℤ net_of more account x.id
 
-  -- a net is over the limit by its contract's number where it is by the contract's name
+  -- a net is over the limit by its contract's number if and only if it is by the contract's name
   pub over_by_name : (name : List ℕ)
       → is_over_at (position_or_len (bytes_eq name) (ids_of contracts)) (holdings_with contracts before more account)
       ≡ is_over_in contracts (holdings_with contracts before more account) name
@@ -76,7 +76,7 @@ module _ (contracts : List Contract) (before : List Holding) (more : List Positi
             ∙ net_among_all merged_net 0 k k x contracts e (omega arith) in
             ltb-false MAX_NET (nat_abs (merged_net k x)) (ap (λ z. nat_lt MAX_NET (nat_abs z)) (sym whole) ∙ e')
 
-    -- the account holds a portfolio, where no position that comes is of a net over the limit
+    -- if no added position has a net over the limit, the holdings of the account are a portfolio
     pub merged_holds : length (holdings_with contracts before more account) ≤ MAX_HELD
         → ArePortfolio (holdings_with contracts before more account)
     merged_holds few = held_holds merged_net contracts merged_within few

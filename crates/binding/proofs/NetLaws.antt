@@ -1,4 +1,4 @@
--- Laws of nets by contract number.
+-- Lemmas about nets by contract number.
 use Rattle.std.proofs.Common.{◌≡◌, ℕ, zero, suc, ◌+◌, ◌*◌, ◌<◌, ◌≤◌, ◌⊎◌}
 use Rattle.std.proofs.Common.{Bool, true, false, cond, ◌==◌, List, [], ◌∷◌, ◌++◌, length}
 use Rattle.std.proofs.Common.{get_or, set, take, filter, map, refl, sym, ap, ◌∙◌, inl, inr, arith}
@@ -18,7 +18,7 @@ use Rattle.span_tables.specs.declared.portfolios.Holding.{Holding}
 use Rattle.binding.specs.near.Nets.{entry_net, entry_holdings, holding_at, holdings_from}
 use Rattle.binding.specs.declared.ledgers.Entry.{Entry}
 
--- a sum of what passes, with one more element
+-- a sum over the elements that pass a test, after one more element
 pub int_sum_by-filter_push : {X : Type 0} (f : X → ℤ) (p : X → Bool) (xs : List X) (x : X)
     → int_sum_by f (filter p (xs ++ x ∷ [])) ≡ cond (p x) (int_sum_by f (filter p xs) +ℤ f x) (int_sum_by f (filter p xs))
 int_sum_by-filter_push {X} f p xs x = ap (int_sum_by f) (filter-append p xs (x ∷ [])) ∙ by (p x)
@@ -89,7 +89,7 @@ module _ (n i : ℕ) (entries : List Entry) (d : Entry) where
           (ne_eqb e.contract k (λ s. other (sym s))))
           ∙ sym (at next k d h)
 
--- the table of no entries
+-- the table of nets without entries
 pub table_none : (n : ℕ) → replicate n (pos 0) ≡ map (entry_net []) (range_with_len 0 n)
 table_none n = replicate-map n 0
   where
@@ -97,7 +97,7 @@ table_none n = replicate-map n 0
     replicate-map zero a = refl
     replicate-map (suc m) a = ap (λ xs. pos 0 ∷ xs) (replicate-map m (a + 1))
 
--- a net grows by no more than the quantity
+-- a net grows by at most the quantity
 pub small_more : (nets : List ℤ) (c i : ℕ) (q : ℤ) → nat_abs q ≤ MAX_QUANTITY
     → ((k : ℕ) → nat_abs (get_or nets k (pos 0)) ≤ i * MAX_QUANTITY)
     → (k : ℕ) → nat_abs (get_or (set nets c (get_or nets c (pos 0) +ℤ q)) k (pos 0)) ≤ (i + 1) * MAX_QUANTITY
@@ -122,7 +122,7 @@ small_more nets c i q small all k = by (cases_eq k c) (cases_lt c (length nets))
 pub is_held-eq : (h : Holding) → h.net ≡ pos 0 → is_held h ≡ false
 is_held-eq h e = not_from_true (nat_abs h.net == 0) (eq-eqb (nat_abs h.net) 0 (ap nat_abs e))
 
--- nets of 0 are 0 at each place
+-- nets of 0 are 0 at each index
 pub nets_of_zero : (n k : ℕ) → get_or (replicate n (pos 0)) k (pos 0) ≡ pos 0
 nets_of_zero zero k = refl
 nets_of_zero (suc n) zero = refl
@@ -132,7 +132,7 @@ pub small_none : (nets : List ℤ) → nets ≡ replicate (length nets) (pos 0) 
 small_none nets e k =
     let z : get_or nets k (pos 0) ≡ pos 0 = ap (λ xs. get_or xs k (pos 0)) e ∙ nets_of_zero (length nets) k in rw z (omega arith)
 
--- the holdings of a table
+-- the holdings of a table of nets
 same_on_range : {A : Type 0} (f g : ℕ → A) (a n : ℕ) → ((k : ℕ) → a ≤ k → k < a + n → f k ≡ g k)
     → map f (range_with_len a n) ≡ map g (range_with_len a n)
 same_on_range f g a zero h = refl
@@ -155,7 +155,7 @@ holdings_in_table n entries nets e =
     holding_with : ℕ → ℤ → Holding
     holding_with k z = record { contract = k; net = z }
 
--- the table of an account's entries, from one of as many nets of 0
+-- the table of an account's entries, starting from nets of 0
 module _ (n : ℕ) (entries ledger : List Entry) (zeros nets : List ℤ) (cleared : zeros ≡ replicate n (pos 0)) (is : entries ≡ ledger)
     (added : nets ≡ map (entry_net entries) (range_with_len 0 (length zeros))) where
   table_is : nets ≡ map (entry_net ledger) (range_with_len 0 n)

@@ -1,4 +1,4 @@
--- The faults of nets, where each record tells its account by number.
+-- The faults of nets, with the account of each record given by number.
 use Rattle.std.proofs.Common.{◌≡◌, ℕ, ◌<◌, List, [], length, get_or, Some, position, sym, ap}
 use Rattle.std.specs.Prelude.{All, bytes_eq}
 use Rattle.span_tables.specs.Net.{accounts_of}

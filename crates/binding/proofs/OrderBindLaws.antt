@@ -1,4 +1,4 @@
--- What orders are bound to.
+-- The result of binding orders.
 use Rattle.std.proofs.Common.{◌≡◌, ℕ, suc, ◌<◌, Bool, true, false, cond, ◌&&◌, List, [], ◌∷◌, ◌++◌, length, map, filter, get_or}
 use Rattle.std.proofs.Common.{Some, None, Ok, Err, refl, sym, ap, subst, ◌∙◌, arith}
 use Rattle.std.specs.Prelude.{All, bytes_eq, MatchBool, nat_lt, option_map, ⊤}
@@ -58,14 +58,14 @@ names_under : (records : List OrderRecord) → map (λ p. p.account) (map under_
 names_under [] = refl
 names_under (r ∷ records) = ap (λ ns. r.order ∷ ns) (names_under records)
 
--- the orders are the accounts of their records under their names
+-- the orders are the accounts of their records, read under the orders' names
 pub orders_under : (records : List OrderRecord) → accounts_of (map under_order records) ≡ orders_in records
 orders_under records = ap distinct (names_under records)
 
 -- ---- faults
 
 module _ (contracts : List Contract) (portfolios : List AccountHoldings) (records : List OrderRecord) where
-  -- what the accounts of orders hold without them and with them, by the orders' names
+  -- the holdings of the orders' accounts without and with the orders, by order name
   abbrev before : List ℕ → List Holding
   before order = holdings_before portfolios records order
 
@@ -105,7 +105,7 @@ module _ (contracts : List Contract) (portfolios : List AccountHoldings) (record
       first_is_held (λ (r : OrderRecord). r.order) (λ r. r.contract) fault.UnknownContract fault.NetOutOfRange fault.TooManyHeld
       contracts over many records known within ∙ e
 
-  -- accepted orders are of known contracts, and within the limits
+  -- accepted orders are of known contracts and within the limits
   fit : order_bind_fault contracts portfolios records ≡ None → (list_any (is_of_unknown contracts) records ≡ false)
       × (list_any (exceeds_net_with contracts portfolios records) records ≡ false)
       × (list_any (exceeds_held_with contracts portfolios records) records ≡ false)
@@ -117,7 +117,7 @@ module _ (contracts : List Contract) (portfolios : List AccountHoldings) (record
   pub accepted_known : order_bind_fault contracts portfolios records ≡ None → list_any (is_of_unknown contracts) records ≡ false
   accepted_known none = (fit none).0
 
-  -- no record of an order is over the limit, where none of all is
+  -- if no record is over the limit, no record of one order is
   within_order : (over : List ℕ → List ℕ → Bool) (order : List ℕ) (xs : List OrderRecord)
       → list_any (λ r. over r.order r.contract) xs ≡ false
       → list_any (λ p. over order p.contract) (positions_of_order xs order) ≡ false
@@ -137,7 +137,7 @@ module _ (contracts : List Contract) (portfolios : List AccountHoldings) (record
           (ap (λ o. over o r.contract) (sym (same_name r.order order e)) ∙ parts.0) more
       by false e more = more
 
-  -- an accepted order's account holds a portfolio with it
+  -- the account of an accepted order has a portfolio with it
   pub accepted_fits : has_repeat (λ x y. bytes_eq x.id y.id) contracts ≡ false → order_bind_fault contracts portfolios records ≡ None
       → (order : List ℕ) → ArePortfolio (holdings_before portfolios records order) → is_among (orders_in records) order ≡ true
       → ArePortfolio (holdings_after contracts portfolios records order)
@@ -148,7 +148,7 @@ module _ (contracts : List Contract) (portfolios : List AccountHoldings) (record
       (sym (distinct_same (map (λ (r : OrderRecord). r.order) records) order) ∙ among)
       (list_any-map (λ n. are_many (with_order n)) (λ (r : OrderRecord). r.order) records ∙ (fit none).2))
 
-  -- ---- orders as they are kept
+  -- ---- stored orders
 
   abbrev positions : List PositionRecord
   positions = map under_order records
@@ -181,7 +181,7 @@ module _ (contracts : List Contract) (portfolios : List AccountHoldings) (record
       first_of-map [] = refl
       first_of-map (x ∷ xs) = refl
 
-      -- the first fault that is found is the fault of the definition
+      -- the first fault found is the fault of the definition
       pub found_first : (unknown : List BindFault) (excesses : List Excess) → unknown ≡ foreign_faults (ids_of contracts) positions
           → excesses ≡ map (λ o. excess_of (kept_after (length contracts) portfolios o)) orders
           → option_map order_fault (first_of (found_faults (ids_of contracts) unknown excesses positions))
@@ -222,7 +222,7 @@ module _ (contracts : List Contract) (portfolios : List AccountHoldings) (record
             → kept_after (length contracts) portfolios (kept order) ≡ with_order order
         same_after order fits = after_kept order ∙ each_same (with_order order) fits.nets
 
-        -- each order's portfolio with it can be made
+        -- the portfolio of each order's account with the order can be made
         pub all_fit : All (IsKept (length contracts) portfolios) orders
         all_fit =
             All-same (IsKept (length contracts) portfolios) orders (map kept (orders_in records)) orders_are
@@ -257,10 +257,10 @@ module _ (contracts : List Contract) (portfolios : List AccountHoldings) (record
             ≡ map (tried_order contracts portfolios records) (orders_in records)
         tried_are = ap (map (kept_order (length contracts) portfolios)) orders_are ∙ orders_from (orders_in records) with_at
 
--- ---- what is answered
+-- ---- the result
 
 module _ (contracts : List Contract) (portfolios : List AccountHoldings) (records : List OrderRecord) where
-  -- the orders that are kept of a file's names, accounts and entries
+  -- the orders stored for the names, accounts and entries of a file
   pub orders_kept : (ids names accounts : List (List ℕ)) (ps : List PositionRecord) (qs : List AccountHoldings)
       (ledgers : List (List Entry)) (orders : List KeptOrder) → ids ≡ ids_of contracts → ps ≡ map under_order records
       → qs ≡ portfolios → names ≡ accounts_of ps
@@ -276,7 +276,7 @@ module _ (contracts : List Contract) (portfolios : List AccountHoldings) (record
       orders_are ∙ (λ i. all_kept_as (qs_are i) (ns i) (accounts_are i) (ls i))
       ∙ kept_of_names portfolios (account_of_order records) of_order (orders_in records)
 
-  -- as many entries as accounts
+  -- there are as many ledgers as accounts
   pub as_many_accounts : (entries : List ℕ → List Entry) (accounts : List (List ℕ)) (ps : List PositionRecord)
       (ledgers : List (List Entry)) → ps ≡ map under_order records → accounts ≡ map (account_of_order records) (orders_in records)
       → ledgers ≡ map entries (accounts_of ps) → length ledgers ≡ length accounts

@@ -1,4 +1,4 @@
--- Laws of holdings by rising contract number, and of a search among them.
+-- Lemmas about holdings by increasing contract number, and a search among them.
 use Rattle.std.proofs.Common.{◌≡◌, ℕ, zero, suc, ◌+◌, ◌<◌, ◌≤◌, Bool, true, false, cond, ◌||◌, ◌&&◌}
 use Rattle.std.proofs.Common.{List, [], ◌∷◌, length, get_or, filter, map, Ok, Err, refl, sym, ap, subst, ◌∙◌, arith}
 use Rattle.std.specs.Prelude.{ℤ, pos, ◌+ℤ◌, ◌==◌, nat_abs, nat_lt, All}
@@ -31,7 +31,7 @@ none = record { contract = 0; net = pos 0 }
 Rise : List Holding → Type 0
 Rise holdings = AllPairs (λ (x y : Holding). x.contract < y.contract) holdings
 
--- ---- the order of what is held
+-- ---- the order of holdings
 
 numbers_rise : (a n : ℕ) → IsStrictlyIncreasing (range_with_len a n)
 numbers_rise a n k lt =
@@ -51,7 +51,7 @@ pairs_rise all rise i j d l m =
     let second = get_or-map (λ (h : Holding). h.contract) all j d 0 m in
     omega (arith, less, first, second)
 
--- what passes a test, of holdings that rise, rises
+-- the elements of increasing holdings that pass a test are increasing
 pub filter_rise : (test : Holding → Bool) (all : List Holding) → IsStrictlyIncreasing (map (λ h. h.contract) all)
     → IsStrictlyIncreasing (map (λ h. h.contract) (filter test all))
 unfolding Rise
@@ -66,12 +66,12 @@ filter_rise test all rise k lt =
     let second = get_or-map (λ (h : Holding). h.contract) passing (k + 1) none 0 m in
     omega (arith, kept, first, second)
 
--- what is held of holdings by contract number rises
+-- the non-zero holdings of a list by contract number are increasing
 pub held_rise : (all : List Holding) (n : ℕ) → map (λ h. h.contract) all ≡ range_with_len 0 n
     → IsStrictlyIncreasing (map (λ h. h.contract) (filter is_held all))
 held_rise all n numbers = filter_rise is_held all (subst IsStrictlyIncreasing (sym numbers) (numbers_rise 0 n))
 
--- the holdings of an account rise
+-- the holdings of an account are increasing
 pub entry_holdings_rise : (n : ℕ) (entries : List Entry) → IsStrictlyIncreasing (map (λ h. h.contract) (entry_holdings n entries))
 unfolding entry_holdings
 entry_holdings_rise n entries =
@@ -86,7 +86,7 @@ entry_holdings_rise n entries =
 
 -- ---- a search by contract number
 
--- no holding of the number
+-- there is no holding in contract c
 absent_in : (c : ℕ) (holdings : List Holding) → ((k : ℕ) → k < length holdings → (get_or holdings k none).contract ≡ c → ⊥)
     → is_over_at c holdings ≡ false
 absent_in c [] h = refl
@@ -95,7 +95,7 @@ absent_in c (x ∷ holdings) h =
     (ap (λ b. b && is_over x) (ne_eqb x.contract c (h 0 (omega arith))))
     (absent_in c holdings (λ k lt. h (suc k) (omega (arith, lt))))
 
--- the holding of the number stands at a place
+-- the holding in contract c is at index k
 over_in : (c : ℕ) (holdings : List Holding) (k : ℕ) → Rise holdings → k < length holdings
     → (get_or holdings k none).contract ≡ c → is_over_at c holdings ≡ is_over (get_or holdings k none)
 unfolding Rise
@@ -114,7 +114,7 @@ module _ (holdings : List Holding) (rising : IsStrictlyIncreasing (map (λ h. h.
   rise : Rise holdings
   rise = pairs_rise holdings rising
 
-  -- the comparisons with the number rise along the holdings, as a binary search asks
+  -- the comparisons with c are non-decreasing along the holdings, as a binary search requires
   comparisons_rise : IsNonDecreasingBy (λ h. ordering_index (nat_cmp h.contract c)) holdings
   unfolding Rise
   comparisons_rise = IsNonDecreasingBy-from_default (λ h. ordering_index (nat_cmp h.contract c)) holdings none (λ i j le in_range.
@@ -135,9 +135,9 @@ module _ (holdings : List Holding) (rising : IsStrictlyIncreasing (map (λ h. h.
       let after = λ (l : place ≤ k). ranked _ c _ (sym ((parted comparisons_rise).1 k none l lt)) in
       grind (arith, before, after, same)))
 
--- ---- the net in the contract of a number
+-- ---- the net in contract c
 
--- no holding of the number
+-- there is no holding in contract c
 none_among : (c : ℕ) (holdings : List Holding) → ((k : ℕ) → k < length holdings → (get_or holdings k none).contract ≡ c → ⊥)
     → net_among holdings c ≡ pos 0
 none_among c [] h = refl
@@ -177,7 +177,7 @@ over_of_rise c (x ∷ holdings) rise = by (x.contract == c) refl (over_of_rise c
         ap (λ b. (b && is_over x) || is_over_at c holdings) e ∙ more
         ∙ sym (ap (λ b. nat_lt MAX_NET (nat_abs (sum (cond b (x ∷ rest) rest)))) e)
 
--- of holdings that rise, the net in a contract is over the limit where a holding of it is
+-- in increasing holdings the net in a contract is over the limit exactly if a holding in it is
 pub over_among : (holdings : List Holding) → IsStrictlyIncreasing (map (λ h. h.contract) holdings) → (c : ℕ)
     → is_over_at c holdings ≡ nat_lt MAX_NET (nat_abs (net_among holdings c))
 over_among holdings rising c = over_of_rise c holdings (pairs_rise holdings rising)

@@ -1,4 +1,4 @@
--- What the account of an order holds with it, by the entries of the order's records.
+-- The holdings of an order's account with the order, from the entries of the order's records.
 use Rattle.std.proofs.Common.{◌≡◌, ℕ, suc, ◌+◌, Bool, true, false, cond, ◌&&◌, List, [], ◌∷◌, ◌++◌, length, map, filter}
 use Rattle.std.proofs.Common.{refl, sym, ap, ◌∙◌, arith}
 use Rattle.std.specs.Prelude.{pos, ◌+ℤ◌, ◌==◌, bytes_eq, slice_get, All, Some}
@@ -38,7 +38,7 @@ module _ (all : List OrderRecord) (order : List ℕ) where
   abbrev account : List ℕ
   account = account_of_order all order
 
-  -- the nets of an order's records are those under its name, where each of its records has its account
+  -- if all records of an order have its account, their nets are the nets under the order's name
   nets_under : (contract : List ℕ) (xs : List OrderRecord) → All (λ r. r.account ≡ account_of_order all r.order) xs
       → net_of (positions_of_order xs order) account contract ≡ net_of (map under_order xs) order contract
   nets_under contract [] one = refl
@@ -67,7 +67,7 @@ module _ (all : List OrderRecord) (order : List ℕ) where
           more ∙ ap (λ b. int_sum_by (λ (q : PositionRecord). q.quantity)
           (cond (b && bytes_eq r.contract contract) (under_order r ∷ under) under)) (sym e)
 
-  -- what the account holds with the order is what its name holds with all records
+  -- the holdings of the account with the order are the holdings under the order's name with all records
   pub after_under : (contracts : List Contract) (before : List Holding) → All (λ r. r.account ≡ account_of_order all r.order) all
       → holdings_with contracts before (positions_of_order all order) (account_of_order all order)
       ≡ holdings_with contracts before (map under_order all) order
@@ -77,7 +77,7 @@ module _ (all : List OrderRecord) (order : List ℕ) where
       (λ k x. net_among before k +ℤ net_of (map under_order all) order x.id) 0 contracts
       (λ k x e. ap (λ z. net_among before (0 + k) +ℤ z) (nets_under x.id all one)))
 
--- a record of a contract that there is not counts in no net of one that there is
+-- a record of an unknown contract counts in no net of a known one
 known_net : (contracts : List Contract) (account : List ℕ) (k : ℕ) (x : Contract) → slice_get contracts k ≡ Some x
     → (positions : List PositionRecord) → net_of (known_records contracts positions) account x.id ≡ net_of positions account x.id
 known_net contracts owner k x e [] = refl
@@ -102,7 +102,7 @@ known_net contracts owner k x e (p ∷ positions) = by (is_known contracts p) re
         more ∙ ap (λ b. int_sum_by (λ (q : PositionRecord). q.quantity) (cond b (p ∷ mine) mine))
         (sym (and_right (bytes_eq p.account owner) (bytes_eq p.contract x.id) other))
 
--- records of contracts that there are not count in nothing that is held
+-- records of unknown contracts change no holdings
 pub known_count : (contracts : List Contract) (before : List Holding) (positions : List PositionRecord) (account : List ℕ)
     → holdings_with contracts before (known_records contracts positions) account ≡ holdings_with contracts before positions account
 known_count contracts before positions account =
@@ -113,7 +113,7 @@ known_count contracts before positions account =
 
 -- ---- entries
 
--- the net of entries behind others
+-- the net of entries appended to others
 entry_net-append : (front back : List Entry) (c : ℕ) → entry_net (front ++ back) c ≡ entry_net front c +ℤ entry_net back c
 entry_net-append front back c =
     let test = λ (e : Entry). e.contract == c in
@@ -128,7 +128,7 @@ held_net (h ∷ holdings) c =
     ∙ ap (λ z. cond (h.contract == c) h.net (pos 0) +ℤ z) (held_net holdings c)
     ∙ sym (int_sum_by-if (λ (x : Holding). x.net) (h.contract == c) h (filter (λ (x : Holding). x.contract == c) holdings))
 
--- what an account holds with positions that come to it is what the entries of both hold
+-- the holdings of an account with added positions are the holdings of the entries of both
 pub merged_are : (contracts : List Contract) (before : List Holding) (more : List PositionRecord) (account : List ℕ)
     → has_repeat (λ y z. bytes_eq y.id z.id) contracts ≡ false
     → holdings_with contracts before more account

@@ -56,7 +56,7 @@ earlier_is contracts test earlier =
     list_any-filter test known (map under_order earlier) ∙ list_any-map (λ p. known p && test p) under_order earlier
     ∙ sym (list_any-filter (λ r. test (under_order r)) (is_of_known (λ (r : OrderRecord). r.contract) contracts) earlier)
 
--- the faults of orders are those of positions under their names
+-- the faults of orders are the faults of positions under their names
 pub transferred : (contracts : List Contract) (is_over : List ℕ → List ℕ → Bool) (has_many : List ℕ → Bool) (records : List OrderRecord)
     → map order_fault (owner_faults (λ p. p.account) (λ p. p.contract) bind.UnknownContract bind.NetOutOfRange bind.TooManyHeld contracts
     is_over has_many (map under_order records))

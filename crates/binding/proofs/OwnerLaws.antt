@@ -1,4 +1,4 @@
--- What records of owners keep that have no fault, and which fault goes first.
+-- Properties of owners' records without a fault, and the order of faults.
 use Rattle.std.proofs.Common.{◌≡◌, ℕ, Bool, false, not, ◌&&◌, ◌++◌, List, Option, Some, None, refl, sym, ap, ◌∙◌}
 use Rattle.std.specs.Prelude.{bytes_eq}
 use Rattle.std.specs.List.{list_any}
@@ -16,7 +16,7 @@ or_behind : {F : Type 0} (a b c : Option F) → option_or (option_or a b) c ≡ 
 or_behind None b c = refl
 or_behind (Some x) b c = refl
 
--- the first of three faults is none only where all are
+-- the first of three faults is none only if all three are none
 none_of : {F : Type 0} (a b c : Option F) → option_or a (option_or b c) ≡ None → (a ≡ None) × (b ≡ None) × (c ≡ None)
 none_of (Some x) b c e = cc
 none_of None (Some x) c e = cc
@@ -33,7 +33,7 @@ module _ {R F : Type 0} (owner contract : R → List ℕ) (b1 b2 b3 : ℕ → Li
   abbrev many : R → Bool
   many r = has_many (owner r)
 
-  -- the three faults, each by itself
+  -- the three faults, each on its own
   abbrev unknown : Option F
   unknown = first_unfit_by owner b1 (λ earlier r. is_foreign r) all
 
@@ -52,7 +52,7 @@ module _ {R F : Type 0} (owner contract : R → List ℕ) (b1 b2 b3 : ℕ → Li
   abbrev answer : Option F
   answer = first_of (owner_faults owner contract b1 b2 b3 contracts is_over has_many all)
 
-  -- the first that is over a limit is the first of its kind
+  -- the first record over a limit is the first record of its kind
   net_of_kind : out_of_range ≡ first_unfit_by owner b2 (λ earlier r. over r) all
   net_of_kind =
       first_of_kind owner b2 (λ x r. bytes_eq (owner x) (owner r) && bytes_eq (contract x) (contract r)) over
@@ -65,7 +65,7 @@ module _ {R F : Type 0} (owner contract : R → List ℕ) (b1 b2 b3 : ℕ → Li
       first_of_kind owner b3 (λ x r. bytes_eq (owner x) (owner r)) many
       (λ x r same e. ap has_many (same_name (owner x) (owner r) same) ∙ e) all
 
-  -- the first fault: of a record of an unknown contract, and where there is none, of a net and then of too many held
+  -- the first fault: a record of an unknown contract, otherwise a net over the limit, otherwise too many contracts held
   in_order : answer ≡ option_or unknown (option_or out_of_range too_many)
   in_order =
       first_of_both (foreign ++ nets) held ∙ ap (λ o. option_or o (first_of held)) (first_of_both foreign nets)

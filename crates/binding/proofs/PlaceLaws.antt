@@ -1,4 +1,4 @@
--- Places of names, and contracts by their places.
+-- Indexes of names, and contracts by their indexes.
 use Rattle.std.proofs.Common.{◌≡◌, ℕ, suc, ◌+◌, ◌<◌, Bool, true, false, cond, not, ◌||◌, List, [], ◌∷◌, length, get_or, map, Some, None}
 use Rattle.std.proofs.Common.{position, refl, sym, ap, ◌∙◌, arith}
 use Rattle.std.specs.Prelude.{bytes_eq}
@@ -55,7 +55,7 @@ at_place {H} f (k ∷ ks) name d h = by (bytes_eq name k) refl h (at_place f ks 
         (let up : 1 + position_or_len (bytes_eq name) ks ≡ suc (position_or_len (bytes_eq name) ks) = omega arith in
         ap (λ n. get_or (f k ∷ map f ks) n d) up) ∙ more h
 
--- a contract is among the ids just where the tables have it
+-- a contract is among the ids exactly if the tables have it
 pub listed_is : (contracts : List Contract) (p : PositionRecord) → is_listed (ids_of contracts) p ≡ is_known contracts p
 listed_is [] p = refl
 listed_is (x ∷ xs) p =

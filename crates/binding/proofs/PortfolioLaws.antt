@@ -1,4 +1,4 @@
--- Laws of portfolios that have no fault.
+-- Lemmas about portfolios without a fault.
 use Rattle.std.proofs.Common.{◌≡◌, ◌≢◌, ℕ, zero, suc, ◌+◌, ◌<◌, ◌≤◌, ◌⊎◌, inl}
 use Rattle.std.proofs.Common.{inr, Bool, true, false, cond, ◌||◌, ◌&&◌, List, [], ◌∷◌, ◌++◌}
 use Rattle.std.proofs.Common.{length, get_or, take, filter, map, refl, sym, ap, subst, ◌∙◌, arith}
@@ -25,7 +25,7 @@ use Rattle.binding.proofs.AccountLaws.{bytes_eq-refl}
 use Rattle.binding.proofs.FilterMaps.{list_any-map}
 use Rattle.binding.proofs.OrderLaws.{held_rise}
 
--- where no record is over a limit of its account and contract, no account and contract that a record has is
+-- if no record is over the limit of its account and contract, then no pair of account and contract with a record is
 pub within_from : (over : List ℕ → List ℕ → Bool) (account name : List ℕ) (xs : List PositionRecord)
     → list_any (λ p. over p.account p.contract) xs ≡ false
     → (filter (λ p. bytes_eq p.account account && bytes_eq p.contract name) xs ≡ []) ⊎ (over account name ≡ false)
@@ -58,7 +58,7 @@ module _ (positions : List PositionRecord) (account name : List ℕ) where
           ap (λ xs. nat_abs (int_sum_by (λ (p : PositionRecord). p.quantity) xs)) none in omega (arith, zero_net)
       by (inr e) = ltb-false MAX_NET (nat_abs (net_of positions account name)) e
 
--- where none of some names holds too many, no name among them does
+-- if none of the names holds too many contracts, then a name among them does not
 pub few_among : (held : List ℕ → List Holding) (account : List ℕ) (names : List (List ℕ))
     → list_any (bytes_eq account) names ≡ true → list_any (λ n. are_many (held n)) names ≡ false → length (held account) ≤ MAX_HELD
 few_among held account [] there h = absurd (false≢true there)
@@ -109,7 +109,7 @@ module _ (net : ℕ → Contract → ℤ) (contracts : List Contract) where
       (each_within (a + 1) xs (λ k y e.
       let up : a + suc k ≡ a + 1 + k = omega arith in subst (λ n. nat_abs (net n y) ≤ MAX_NET) up (h (suc k) y e)))
 
-  -- what is held within the limits is a portfolio
+  -- holdings within the limits are a portfolio
   pub held_holds : ((k : ℕ) (x : Contract) → slice_get contracts k ≡ Some x → nat_abs (net k x) ≤ MAX_NET)
       → length (held_of_all net 0 contracts) ≤ MAX_HELD → ArePortfolio (held_of_all net 0 contracts)
   unfolding all
@@ -124,7 +124,7 @@ module _ (net : ℕ → Contract → ℤ) (contracts : List Contract) where
     rising = all_rise;
   }
 
--- an account's holdings under no fault
+-- the holdings of an account, if there is no fault
 pub portfolio_holds : (contracts : List Contract) (positions : List PositionRecord) (account : List ℕ)
     → list_any (exceeds_net positions) positions ≡ false
     → length (holdings_of contracts positions account) ≤ MAX_HELD → ArePortfolio (holdings_of contracts positions account)
@@ -132,7 +132,7 @@ portfolio_holds contracts positions account h few =
     held_holds (λ k x. net_of positions account x.id) contracts (λ k x e. net_within positions account x.id h) few
 
 module _ (contracts : List Contract) (positions : List PositionRecord) (accounts : List (List ℕ)) where
-  -- the holdings of all accounts under no fault
+  -- the holdings of all accounts, if there is no fault
   pub portfolios_hold : (nets : List (List Holding)) → accounts ≡ accounts_of positions
       → nets ≡ map (holdings_of contracts positions) accounts
       → list_any (exceeds_net positions) positions ≡ false → list_any (exceeds_held contracts positions) positions ≡ false
@@ -154,7 +154,7 @@ module _ (contracts : List Contract) (positions : List PositionRecord) (accounts
       let rest = paired_map ks in λ i. (let it : AccountHoldings = record { account = k; holdings = holdings_of contracts positions k } in
       it) ∷ rest i
 
-  -- the portfolios are those of the definition
+  -- the portfolios are the portfolios of the definition
   pub paired_is : (nets : List (List Holding)) → accounts ≡ accounts_of positions
       → nets ≡ map (holdings_of contracts positions) accounts → portfolios_from accounts nets ≡ portfolios_of contracts positions
   unfolding portfolios_of

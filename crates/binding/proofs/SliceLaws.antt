@@ -1,4 +1,4 @@
--- What is gathered for some of the accounts, from one on.
+-- The entries gathered for a range of accounts.
 use Rattle.std.proofs.Common.{◌≡◌, ℕ, zero, suc, ◌+◌, ◌-◌, ◌<◌, ◌≤◌, Bool, true, false, cond, not, ◌&&◌, ◌||◌, List, [], ◌∷◌, ◌++◌}
 use Rattle.std.proofs.Common.{Some, None, length, get_or, drop, map, pos, set, take, refl, sym, ap, subst, ◌∙◌, arith, true≢false}
 use Rattle.std.specs.Prelude.{All, bytes_eq, nat_lt}
@@ -18,9 +18,9 @@ use Rattle.binding.proofs.AccountLaws.{entered, entries_push, left_out}
 use Rattle.binding.proofs.LedgerLaws.{apart, as_many, number_within, record_at, taken_next}
 use Rattle.binding.proofs.PlaceLaws.{position_none, within}
 
--- ---- what is known of records by the places of their contracts
+-- ---- known contracts, by the indexes of the records' contracts
 
--- a name has a place just where it is among the names
+-- the index of a name is below the number of names exactly if the name is among them
 below_is : (ids : List (List ℕ)) (name : List ℕ) (b : Bool) → list_any (bytes_eq name) ids ≡ b
     → nat_lt (position_or_len (bytes_eq name) ids) (length ids) ≡ b
 below_is ids name true h = lt-ltb (position_or_len (bytes_eq name) ids) (length ids) (within ids name h)
@@ -42,7 +42,7 @@ each_known ids (p ∷ positions) =
     by true r = refl
     by false r = refl
 
--- each record is of a contract among the ids exactly if each place is the place of one
+-- all records are of contracts among the ids exactly if all found indexes are below the number of ids
 pub all_known_by_places : (ids : List (List ℕ)) (found : List ℕ) (positions : List PositionRecord)
     → found ≡ map (λ (p : PositionRecord). contract_place ids p.contract) positions
     → list_all (λ place. nat_lt place (length ids)) found ≡ not (list_any (is_foreign ids) positions)
@@ -62,7 +62,7 @@ whole_nets ids positions =
 module _ (positions : List PositionRecord) (records : List NumberedPosition)
     (named : named_positions (accounts_of positions) records ≡ positions)
     (known : All (λ (p : NumberedPosition). p.account < length (accounts_of positions)) records) (ids : List (List ℕ)) (f c : ℕ) where
-  -- the entry of a record at a place, of a contract that was found
+  -- the entry of the record at index i, from the found index of its contract
   pub found_within : (i : ℕ) (found : List ℕ) → i < length records
       → found ≡ map (λ (p : PositionRecord). contract_place ids p.contract) positions → i < length found
   found_within i found lt are =
@@ -95,7 +95,7 @@ module _ (positions : List PositionRecord) (records : List NumberedPosition)
     next : map (entries_of ids (before ++ p ∷ [])) some ≡ map (entries_of ids (take (i + 1) positions)) some
     next = ap (λ ps. map (entries_of ids ps) some) (sym (taken_next positions records named known i r lt at))
 
-    -- the ledgers after the record at a place, whose account is among them
+    -- the ledgers after the record at index i, if its account is in the range
     pub slice_step : (ledgers' : List (List Entry)) (e : Entry) → f ≤ r.account → r.account < f + c
         → e ≡ entry_of ids (named_position (accounts_of positions) r)
         → ledgers' ≡ set ledgers (r.account - f) (get_or ledgers (r.account - f) [] ++ e ∷ [])
@@ -110,7 +110,7 @@ module _ (positions : List PositionRecord) (records : List NumberedPosition)
         (entries_push ids before p) k (omega (arith, le, below)) (omega (arith, le))
         ∙ next
 
-    -- the same of a record of another account
+    -- the ledgers after the record at index i, if its account is not in the range
     pub slice_stay : ((k : ℕ) → k < c → r.account ≡ f + k → ⊥)
         → ledgers ≡ map (entries_of ids (take (i + 1) positions)) (take c (drop f (accounts_of positions)))
     slice_stay other =
@@ -121,7 +121,7 @@ module _ (positions : List PositionRecord) (records : List NumberedPosition)
         ∙ next
 
   module _ (within : f + c ≤ length (accounts_of positions)) (ledgers : List (List Entry)) where
-    -- the ledgers have the entries of so many records
+    -- the ledgers have the entries of the first i records
     abbrev Hold : ℕ → Type 0
     Hold i = ledgers ≡ map (entries_of ids (take i positions)) (take c (drop f (accounts_of positions)))
 
@@ -131,7 +131,7 @@ module _ (positions : List PositionRecord) (records : List NumberedPosition)
         let last : r.account - f < c = omega (arith, is, less) in
         true≢false (rw (le-leb f r.account first, lt-ltb (r.account - f) c last) at other)
 
-    -- records of other accounts add nothing to them
+    -- records of other accounts do not change the ledgers
     pub others_stay : (n i j : ℕ) → i + n ≡ j → j ≤ length records → AllWithin (λ p. is_of f c p ≡ false) records i j → Hold i → Hold j
     others_stay zero i j e le others was = subst Hold (omega (arith, e)) was
     others_stay (suc n) i j e le others was =

@@ -1,4 +1,5 @@
--- Records that are told once of their kind, by what each exceeds or among the records of known contracts.
+-- Two ways to report one record of each kind: among the records that exceed a limit, or among the records of known
+-- contracts.
 use Rattle.std.proofs.Common.{◌≡◌, ℕ, suc, ◌<◌, Bool, true, false, cond, not, ◌||◌, ◌&&◌, List, [], ◌∷◌, length, get_or}
 use Rattle.std.proofs.Common.{filter, take, Some, None, refl, sym, ap, ◌∙◌, arith}
 use Rattle.std.specs.Prelude.{if◌then◌else◌}
@@ -10,7 +11,7 @@ use Rattle.binding.specs.Binding.{all_unfit}
 use Rattle.binding.specs.declared.faults.BindFault.{BindFault}
 use Rattle.binding.proofs.AllFaults.{all_faults_same}
 
--- tests that say the same of each element in its place
+-- tests that agree on each element of a list
 pub list_any-same_at : {X : Type 0} (p q : X → Bool) (xs : List X)
     → ((k : ℕ) (d : X) → k < length xs → p (get_or xs k d) ≡ q (get_or xs k d)) → list_any p xs ≡ list_any q xs
 list_any-same_at p q [] h = refl
@@ -19,7 +20,7 @@ list_any-same_at p q (x ∷ xs) h =
     let rest = list_any-same_at p q xs (λ k d lt. h (suc k) d (omega (arith, lt))) in
     λ i. here i || rest i
 
--- a test of the elements that pass another
+-- a test of the elements that pass another test
 pub list_any-filter : {X : Type 0} (p q : X → Bool) (xs : List X) → list_any p (filter q xs) ≡ list_any (λ x. q x && p x) xs
 list_any-filter p q [] = refl
 list_any-filter p q (x ∷ xs) = by (q x) (list_any-filter p q xs)
@@ -29,8 +30,9 @@ list_any-filter p q (x ∷ xs) = by (q x) (list_any-filter p q xs)
     by true more = ap (λ b. p x || b) more
     by false more = more
 
--- Of the elements those exceed that are known and over; alike ones are over together. Then of the first that exceeds among alike ones, and
--- of the first that is known among alike ones, where it is over, the same is told.
+-- An element exceeds if it is known and over. If one of two elements of the same kind is over, both are. Then two rules
+-- report the same elements: the first of each kind that exceeds, and the first of each kind that is known, if it is
+-- over.
 module _ (fault : ℕ → List ℕ → BindFault) (known over exceeds : PositionRecord → Bool) (same : PositionRecord → PositionRecord → Bool)
     (alike : (x p : PositionRecord) → same x p ≡ true → over p ≡ true → over x ≡ true) (all : List PositionRecord)
     (is : (k : ℕ) (d : PositionRecord) → k < length all

@@ -1,4 +1,4 @@
--- The records of one order that consists of trades.
+-- The records of one order that is made of trades.
 use Rattle.std.proofs.Common.{◌≡◌, ◌∙◌, ℕ, ◌<◌, ◌≤◌, List, [], ◌∷◌, ap, arith, bytes_eq, cond, false, filter, length, lit≤, map, not, refl}
 use Rattle.std.proofs.Common.{subst, sym}
 use Rattle.std.specs.Prelude.{◌==◌, All, nat_abs, slice_index_or}
@@ -45,7 +45,7 @@ module _ (order account : List ℕ) where
   records_are [] = refl
   records_are (t ∷ trades) = let here = record_is t in let rest = records_are trades in λ i. here i ∷ rest i
 
-  -- ---- what is made of them
+  -- ---- what is made from the records
 
   module _ (trades : List Trade) (not_empty : (length trades == 0) ≡ false) where
     some : 0 < length trades

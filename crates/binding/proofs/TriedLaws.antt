@@ -1,4 +1,4 @@
--- Orders that are tried, on the portfolios of positions and beside one another.
+-- Orders evaluated on the portfolios of positions and independently of each other.
 use Rattle.std.proofs.Common.{◌≡◌, ℕ, suc, Bool, true, false, cond, List, [], ◌∷◌, ◌++◌, map, filter}
 use Rattle.std.proofs.Common.{Option, Some, None, refl, sym, ap, ◌∙◌, arith}
 use Rattle.std.specs.Prelude.{All, bytes_eq, find, option_map, unwrap_or}
@@ -26,7 +26,7 @@ module _ (contracts : List Contract) (positions : List PositionRecord) (records 
       ap (λ held. holdings_with contracts held (positions_of_order records order) (account_of_order records order)) before_by_positions
       ∙ holdings_with_more contracts positions (positions_of_order records order) (account_of_order records order)
 
--- ---- beside one another
+-- ---- independently of each other
 
 abbrev of_order : List ℕ → OrderRecord → Bool
 of_order order r = bytes_eq r.order order
@@ -44,7 +44,7 @@ filter_twice order (r ∷ records) = by (of_order order r) refl (filter_twice or
     by true e more = ap (λ b. cond b (r ∷ filter (of_order order) mine) (filter (of_order order) mine)) e ∙ ap (λ rs. r ∷ rs) more
     by false e more = more
 
--- the first record of an order is the first of its records
+-- the first record of an order is the first one among its own records
 first_of : (order : List ℕ) (records : List OrderRecord)
     → find (of_order order) records ≡ find (λ r. true) (filter (of_order order) records)
 first_of order [] = refl
@@ -58,7 +58,7 @@ first_of order (r ∷ records) = by (of_order order r) refl (first_of order reco
     by true e more = ap (λ b. cond b (Some r) (find (of_order order) records)) e
     by false e more = ap (λ b. cond b (Some r) (find (of_order order) records)) e ∙ more
 
--- the order by its account and its records alone
+-- the order, from its first record and its own records alone
 tried_by : List Contract → List AccountHoldings → List ℕ → Option OrderRecord → List OrderRecord → TriedOrder
 tried_by contracts portfolios order first mine =
     let account = unwrap_or (option_map (λ (r : OrderRecord). r.account) first) [] in
@@ -93,7 +93,7 @@ nothing_held = record {
   rising = λ k lt. absurd (omega (arith, lt));
 }
 
--- what an account holds among portfolios is a portfolio
+-- an account's holdings among portfolios are a portfolio
 pub among_holds : (name : List ℕ) (portfolios : List AccountHoldings) → All (λ p. ArePortfolio p.holdings) portfolios
     → ArePortfolio (holdings_among portfolios name)
 among_holds name [] all = nothing_held

@@ -1,4 +1,4 @@
--- Laws of the first record with a fault, where the fault is one of the record alone.
+-- Lemmas about the first record with a fault, if the fault depends on the record alone.
 use Rattle.std.proofs.Common.{◌≡◌, ℕ, ◌+◌, Bool, true, false, cond, not, ◌||◌, ◌&&◌, List, []}
 use Rattle.std.proofs.Common.{◌∷◌, ◌++◌, length, Option, Some, None, refl, sym, ap, ◌∙◌}
 use Rattle.std.specs.Prelude.{option_map}
@@ -55,7 +55,7 @@ module _ {R F : Type 0} (name_of : R → List ℕ) (fault : ℕ → List ℕ →
         by true e more = let f : Some (fault (length earlier + 1) (name_of p)) ≡ None = sym (one unfit true earlier p xs e) ∙ h in cc
         by false e more = ap (λ b. b || list_any unfit xs) e ∙ more (sym (one unfit false earlier p xs e) ∙ h)
 
-    -- where there is no fault, no record is unfit
+    -- if there is no fault, no record is unfit
     pub fit_from_none : (xs : List R) → first_unfit_by name_of fault (λ earlier p. unfit p) xs ≡ None → list_any unfit xs ≡ false
     unfolding after
     fit_from_none xs h = none_back [] xs h
@@ -102,7 +102,7 @@ module _ {R F : Type 0} (name_of : R → List ℕ) (fault : ℕ → List ℕ →
             (test_is earlier p h false e)
             ∙ more e ∙ sym (one unfit false earlier p xs e)
 
-    -- the first unfit record is the first of its kind, so that need not be asked
+    -- the first unfit record is the first of its kind, so earlier records of its kind need no check
     pub first_of_kind : (xs : List R)
         → first_unfit_by name_of fault (λ earlier p. not (list_any (λ x. same x p) earlier) && unfit p) xs
         ≡ first_unfit_by name_of fault (λ earlier p. unfit p) xs

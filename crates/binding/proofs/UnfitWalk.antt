@@ -1,4 +1,4 @@
--- A walk over positions that tells the records with a fault.
+-- A loop over positions that reports the records with a fault.
 use Rattle.std.proofs.Common.{◌≡◌, ℕ, ◌+◌, ◌≤◌, Bool, true, false, List, [], ◌∷◌, ◌++◌, Option, Some, None, sym, ap, ◌∙◌}
 use Rattle.std.proofs.Common.{append_assoc, length, take}
 use Rattle.std.specs.Prelude.{if◌then◌else◌, option_map, option_to_list}
@@ -15,15 +15,15 @@ abbrev pub unfit_at : (ℕ → List ℕ → BindFault) → (List PositionRecord 
 unfit_at fault unfit earlier p = if unfit earlier p then Some (λ at. fault at p.account) else None
 
 module _ (fault : ℕ → List ℕ → BindFault) (unfit : List PositionRecord → PositionRecord → Bool) (all : List PositionRecord) where
-  -- these faults were found in the records before a place; with the faults from there on they are all faults
+  -- these faults were found in the records before index i; together with the faults from i on they are all faults
   pub record AreTold (told : List BindFault) (i : ℕ) : Type 0 where
     pub rest : told ++ faults_from (unfit_at fault unfit) all i ≡ all_unfit fault unfit all
 
-  -- at the start nothing is told
+  -- at the start no fault is reported
   pub told_start : (told : List BindFault) → told ≡ [] → AreTold told 0
   told_start told none = record { rest = ap (λ xs. xs ++ all_unfit fault unfit all) none }
 
-  -- behind the last record all faults are found
+  -- after the last record all faults are found
   pub told_end : (told : List BindFault) (i : ℕ) → length all ≤ i → AreTold told i → told ≡ all_unfit fault unfit all
   told_end told i past was =
       sym (append-nil told) ∙ ap (λ rest. told ++ rest) (sym (faults_from_end (unfit_at fault unfit) all i past)) ∙ was.rest

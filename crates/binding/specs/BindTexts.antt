@@ -1,4 +1,4 @@
--- What is said of each fault of binding: its number and name, the number of its record, and the record's account or order.
+-- The text of each fault of binding: its number and name, the number of its record, and the record's account or order.
 use Rattle.std.specs.Prelude.{ℕ, List, ◌++◌, codes, decimal}
 use Rattle.binding.specs.declared.faults.BindFault.{BindFault}
 use Rattle.binding.specs.declared.faults.BindFault.TheVariants as bind

@@ -14,7 +14,7 @@ use Rattle.span_tables.specs.declared.limits.TheConstants.{MAX_NET, MAX_HELD}
 abbrev pub is_of_known : {R : Type 0} → (R → List ℕ) → List Contract → R → Bool
 is_of_known contract contracts r = list_any (λ x. bytes_eq x.id (contract r)) contracts
 
--- a record is of a contract that the tables have, and a test holds of it behind the earlier records of such contracts
+-- a record is of a contract that the tables have, and passes a test among the earlier records of such contracts
 abbrev pub among : {R : Type 0} → (R → List ℕ) → List Contract → (List R → R → Bool) → List R → R → Bool
 among contract contracts test earlier r =
     is_of_known contract contracts r && test (filter (is_of_known contract contracts) earlier) r
@@ -40,7 +40,7 @@ is_first_of_contract earlier p =
 abbrev pub is_first_of_account : List PositionRecord → PositionRecord → Bool
 is_first_of_account earlier p = not (list_any (λ x. bytes_eq x.account p.account) earlier)
 
--- the net over all records is over the limit either way
+-- the net over all records is over the limit, long or short
 abbrev pub exceeds_net : List PositionRecord → PositionRecord → Bool
 exceeds_net all p = nat_lt MAX_NET (nat_abs (net_of all p.account p.contract))
 
@@ -48,29 +48,31 @@ exceeds_net all p = nat_lt MAX_NET (nat_abs (net_of all p.account p.contract))
 abbrev pub exceeds_held : List Contract → List PositionRecord → PositionRecord → Bool
 exceeds_held contracts all p = nat_lt MAX_HELD (length (holdings_of contracts all p.account))
 
--- each record with a fault, under the fault's name and with a name of the record
+-- each record with a fault, as a fault with the record's number and a name from the record
 abbrev pub all_unfit_by : {R F : Type 0} → (R → List ℕ) → (ℕ → List ℕ → F) → (List R → R → Bool) → List R → List F
 all_unfit_by name_of fault unfit all =
     all_faults (λ earlier r. if unfit earlier r then Some (λ at. fault at (name_of r)) else None) all
 
--- the first of these
+-- the first of these faults
 abbrev pub first_unfit_by : {R F : Type 0} → (R → List ℕ) → (ℕ → List ℕ → F) → (List R → R → Bool) → List R → Option F
 first_unfit_by name_of fault unfit all = first_of (all_unfit_by name_of fault unfit all)
 
--- each record of positions with a fault, under the fault's name and with the record's account
+-- each position record with a fault, as a fault with the record's number and account
 abbrev pub all_unfit : (ℕ → List ℕ → BindFault) → (List PositionRecord → PositionRecord → Bool)
     → List PositionRecord → List BindFault
 all_unfit fault unfit all = all_unfit_by (λ (p : PositionRecord). p.account) fault unfit all
 
--- the first of these
+-- the first of these faults
 abbrev pub first_unfit : (ℕ → List ℕ → BindFault) → (List PositionRecord → PositionRecord → Bool)
     → List PositionRecord → Option BindFault
 first_unfit fault unfit all = first_of (all_unfit fault unfit all)
 
--- The faults of records that each have an owner and a contract, under the names of the three faults. `is_over` says whether an owner's net
--- in a contract is over the limit, and `has_many` whether an owner holds too many contracts. First comes each record of an unknown
--- contract, then each net over the limit, and then each owner with too many contracts. The last two are told with the first record of the
--- owner and contract, or of the owner, as if the records of unknown contracts were not there, but for the numbers.
+-- The faults of records that each have an owner and a contract, built by the functions b1, b2 and b3. `is_over` says
+-- whether an owner's net in a contract is over the limit, and `has_many` whether an owner holds too many contracts. The
+-- order is: each record of an unknown contract, then each net over the limit, then each owner with too many contracts.
+-- A net is reported at the first record of its owner and contract, and too many contracts at the first record of the
+-- owner. Records of unknown contracts are ignored for these two faults, except that they are counted in the record
+-- numbers.
 abbrev pub owner_faults : {R F : Type 0} → (R → List ℕ) → (R → List ℕ) → (ℕ → List ℕ → F) → (ℕ → List ℕ → F) → (ℕ → List ℕ → F)
     → List Contract → (List ℕ → List ℕ → Bool) → (List ℕ → Bool) → List R → List F
 owner_faults owner contract unknown net held contracts is_over has_many all =
@@ -80,7 +82,7 @@ owner_faults owner contract unknown net held contracts is_over has_many all =
     ++ all_unfit_by owner held (among contract contracts (λ earlier r.
     not (list_any (λ x. bytes_eq (owner x) (owner r)) earlier) && has_many (owner r))) all
 
--- the faults of positions: the owner of a record is its account
+-- the faults of positions; the owner of a record is its account
 unfoldable pub bind_faults : List Contract → List PositionRecord → List BindFault
 bind_faults contracts all =
     let known = known_records contracts all in
@@ -88,7 +90,7 @@ bind_faults contracts all =
     (λ account contract. nat_lt MAX_NET (nat_abs (net_of known account contract)))
     (λ account. nat_lt MAX_HELD (length (holdings_of contracts known account))) all
 
--- the first of these
+-- the first of these faults
 unfoldable pub bind_fault : List Contract → List PositionRecord → Option BindFault
 bind_fault contracts all = first_of (bind_faults contracts all)
 
@@ -96,7 +98,7 @@ bind_fault contracts all = first_of (bind_faults contracts all)
 unfoldable pub bindings_of : List Contract → List PositionRecord → Result (List AccountHoldings) BindFault
 bindings_of contracts all = ok_unless (bind_fault contracts all) (portfolios_of contracts all)
 
--- the fault is out of memory, of which the definition does not speak
+-- the fault is out of memory, which the definition leaves open
 abbrev pub is_memory : BindFault → Bool
 is_memory fault.OutOfMemory = true
 is_memory _ = false

@@ -1,4 +1,4 @@
-//! The binding of positions in steps, of which those over the records and those over the accounts can be taken side by side.
+//! The binding of positions in steps. Steps over slices of the records, or of the accounts, can run concurrently.
 ghost use Rattle.std.specs.Prelude.{◌≡◌, ◌+◌, ◌≤◌, IfOk, List, length, map, not};
 ghost use Rattle.std.specs.List.{list_any};
 ghost use Rattle.binding.specs.Binding.{bindings_of, is_memory};
@@ -23,10 +23,14 @@ use span_tables::tables::Tables;
 use std::alloc::{AllocError, Global};
 use std::marker::Model;
 
-/// The ids of the contracts that positions are bound to, by the contracts' numbers. Contracts see the list of them.
+/// The ids of the contracts that positions are bound to, by contract number. Contracts see the list of the ids.
 ///
-/// Four steps bind a position file as [`bind`](crate::positions::bind) does, if all contracts are known: [`find`](Binder::find), of slices
-/// of the records, [`knows_all`](Binder::knows_all), [`nets`](Binder::nets), of slices of the accounts, and [`bound`](Binder::bound).
+/// If all contracts are known, four steps bind a position file as [`bind`](crate::positions::bind) does:
+///
+/// - [`find`](Binder::find), on slices of the records
+/// - [`knows_all`](Binder::knows_all)
+/// - [`nets`](Binder::nets), on slices of the accounts
+/// - [`bound`](Binder::bound)
 #[derive(Drop)]
 pub struct Binder {
     numbers: IndexSet<Name>,
@@ -44,7 +48,7 @@ impl Model for Binder {
 }
 
 impl Binder {
-    /// The contracts of these tables.
+    /// Returns a binder to the contracts of these tables. `Err` is out of memory.
     pub fn new(alloc: Global, tables: &Tables) -> Result<Binder, AllocError>
         ensures { IfOk result (λ binder. binder ≡ ids_of tables.now.contracts) }
     {
@@ -52,14 +56,14 @@ impl Binder {
         Ok(Binder { numbers })
     }
 
-    /// The places of the contracts of records among these; that of a contract that there is not is behind them.
+    /// Returns the index of each record's contract among the ids. An unknown contract has the number of ids instead.
     pub fn find(&self, alloc: Global, records: &[NumberedPosition]) -> Result<Vec<u16>, AllocError>
         ensures { IfOk result (λ found. found.items ≡ map (λ p. contract_place self.now p.contract) records.now) }
     {
         places_found(alloc, &self.numbers, records)
     }
 
-    /// Whether each of the records whose contracts have these places is of a contract that there is.
+    /// Returns whether all records are of known contracts, from the indexes of their contracts.
     pub fn knows_all(&self, found: &[u16]) -> bool
         ensures { (positions : List PositionRecord) → found.now ≡ map (λ p. contract_place self.now p.contract) positions
             → result ≡ not (list_any (is_foreign self.now) positions) }
@@ -67,7 +71,8 @@ impl Binder {
         all_below(found, self.numbers.len())
     }
 
-    /// What so many accounts from one on hold, whatever the sizes of the nets, by the places of the contracts of all records.
+    /// Returns the holdings of `count` accounts from number `first` on, with nets of any size. `found` has the indexes
+    /// of the contracts of all records.
     #[tactic(auto, unfolding(crate::specs::near::Ledgers::slice_nets))]
     pub fn nets(
         &self,
@@ -85,7 +90,7 @@ impl Binder {
         all_nets(alloc, &self.numbers, ledgers)
     }
 
-    /// What each account holds, of these nets of all of them, or the fault of the positions, of B2 and B3.
+    /// Returns the holdings of each account, from the nets of all accounts, or the fault of the positions (B2 or B3).
     pub fn bound(
         &self,
         alloc: Global,

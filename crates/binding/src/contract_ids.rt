@@ -11,7 +11,7 @@ use span_tables::name::Name;
 use span_tables::records::{Contract, NumberedPosition};
 use std::alloc::{AllocError, Global};
 
-/// The ids of contracts that stand apart; an id's index is its contract's number.
+/// Returns the ids of contracts with distinct ids. The index of an id is the number of its contract.
 pub(crate) fn ids_of(alloc: Global, contracts: &[Contract]) -> Result<IndexSet<Name>, AllocError>
     requires { has_repeat (λ x y. bytes_eq x.id y.id) contracts.now ≡ false }
     ensures { IfOk result (λ numbers. numbers.keys ≡ ids_of contracts.now) }
@@ -23,7 +23,7 @@ pub(crate) fn ids_of(alloc: Global, contracts: &[Contract]) -> Result<IndexSet<N
     Ok(numbers)
 }
 
-// The place of a contract among these; that of one that is not among them is behind them.
+// The index of a contract among the ids, or the number of ids if it is not among them.
 fn place_of(numbers: &IndexSet<Name>, contract: &Name) -> u16
     requires { length numbers.now.keys ≤ MAX_CONTRACTS }
     ensures { result ≡ contract_place numbers.now.keys contract.now }
@@ -34,7 +34,7 @@ fn place_of(numbers: &IndexSet<Name>, contract: &Name) -> u16
     }
 }
 
-/// The places of the contracts of records among these; that of one that is not among them is behind them.
+/// Returns the index of each record's contract among the ids, or the number of ids if it is not among them.
 pub(crate) fn places_found(
     alloc: Global,
     numbers: &IndexSet<Name>,
@@ -50,7 +50,7 @@ pub(crate) fn places_found(
     Ok(found)
 }
 
-/// Whether each place is below a bound.
+/// Returns whether all indexes are below a bound.
 pub(crate) fn all_below(places: &[u16], bound: usize) -> bool
     ensures { result ≡ list_all (λ place. nat_lt place bound) places.now }
 {

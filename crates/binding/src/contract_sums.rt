@@ -1,4 +1,4 @@
-//! Sums by contract number, which cost nothing if nothing was added.
+//! Sums by contract number. A number without additions costs nothing.
 ghost use Rattle.std.specs.Prelude.{◌≡◌, ◌==◌, ◌<◌, ◌+◌, ◌*◌, ◌^◌, ◌++◌, ◌+ℤ◌};
 ghost use Rattle.std.specs.Prelude.{length, map, nat_abs, replicate, pos, slice_index_or, slice_set, IfOk, OnOk};
 ghost use Rattle.std.specs.Int.{bit_at};
@@ -11,13 +11,13 @@ use span_tables::portfolios::Holding;
 use std::alloc::{AllocError, Global};
 use std::marker::Model;
 
-// How many marks a word has.
+// The number of marks in a word.
 const MARKS: usize = u64::BITS as usize;
 
-/// A sum for each contract number. Contracts see the list of them.
+/// A sum for each contract number. Contracts see the list of the sums.
 ///
-/// A bit says of each number whether something was added to its sum since they were cleared. If it is not set, the
-/// sum is 0, whatever stands in its place.
+/// For each number a bit, its mark, says whether something was added to its sum since the sums were cleared. If the
+/// mark is not set, the sum is 0, whatever value its slot has.
 #[derive(Drop)]
 pub(crate) struct Sums {
     places: Vec<i128>,
@@ -35,7 +35,7 @@ impl Model for Sums {
     ghost invariant = { λ s. AreMarks s.marks.items (length s.places.items) };
 }
 
-// Whether the bit of a place is set.
+// Whether the bit at an index is set.
 fn is_set(word: u64, place: usize) -> bool
     requires { place < MARKS }
     ensures { result ≡ (bit_at word place == 1) }
@@ -43,7 +43,7 @@ fn is_set(word: u64, place: usize) -> bool
     word >> place & 1 == 1
 }
 
-// A sum and one more quantity.
+// A sum plus one more quantity.
 fn plus(sum: i128, quantity: i64) -> i128
     requires { nat_abs sum + nat_abs quantity < 2 ^ 127 }
     ensures { result ≡ sum +ℤ quantity }
@@ -51,7 +51,7 @@ fn plus(sum: i128, quantity: i64) -> i128
     sum + i128::from(quantity)
 }
 
-// A net as it is kept, in 64 bits: one that is over the limit stands as the least that is.
+// A stored net, in 64 bits: a net over the limit, long or short, is stored as `MAX_NET + 1`.
 fn kept_net(net: i128) -> i64
     ensures { result ≡ kept_net net }
 {
@@ -61,7 +61,7 @@ fn kept_net(net: i128) -> i64
     net as i64
 }
 
-// Appends the net in the contract of a mark of a word, unless it is 0.
+// Appends the net in the contract of a mark, unless it is 0.
 fn push_held(
     held: &mut Vec<Holding>,
     places: &[i128],
@@ -80,7 +80,7 @@ fn push_held(
     Ok(())
 }
 
-// Appends the sums that are not 0 of a word's numbers, behind those of the words before it.
+// Appends the non-zero sums of a word's numbers to the sums of the words before it.
 fn push_word(
     held: &mut Vec<Holding>,
     places: &[i128],
@@ -102,7 +102,7 @@ fn push_word(
 }
 
 impl Sums {
-    /// A number of sums of 0.
+    /// Returns `count` sums of 0. `Err` is out of memory.
     pub(crate) fn new(alloc: Global, count: usize) -> Result<Sums, AllocError>
         ensures { IfOk result (λ sums. sums ≡ replicate count (pos 0)) }
     {
@@ -111,7 +111,7 @@ impl Sums {
         Ok(Sums { places, marks })
     }
 
-    /// How many sums there are.
+    /// Returns the number of sums.
     pub(crate) fn len(&self) -> usize
         ensures { result ≡ length self.now }
     {
@@ -130,14 +130,14 @@ impl Sums {
         }
     }
 
-    // Makes each sum 0.
+    // Sets each sum to 0.
     fn clear(&mut self)
         ensures { self.new ≡ replicate (length self.old) (pos 0) }
     {
         self.marks.fill(0);
     }
 
-    /// Sets how many sums there are, and each sum to 0. It allocates only if their number changes.
+    /// Sets the number of sums, and each sum to 0. It allocates only if the number changes.
     pub(crate) fn start(&mut self, alloc: Global, count: usize) -> Result<(), AllocError>
         ensures { OnOk result (self.new ≡ replicate count (pos 0)) }
     {
@@ -149,7 +149,7 @@ impl Sums {
         Ok(())
     }
 
-    /// Adds a quantity to the sum of a number; one of no number adds nothing.
+    /// Adds a quantity to the sum of a number. A number past the end is ignored.
     pub(crate) fn add(&mut self, number: usize, quantity: i64)
         requires room { nat_abs (slice_index_or self.old number (pos 0)) + nat_abs quantity < 2 ^ 127 }
         ensures { self.new ≡ slice_set self.old number (slice_index_or self.old number (pos 0) +ℤ quantity) }
@@ -162,7 +162,7 @@ impl Sums {
         self.places[number] = sum;
     }
 
-    /// The sums that are not 0, as what is held of each number; there is room for so many at first.
+    /// Returns the non-zero sums as holdings. The result first has room for `room` holdings.
     pub(crate) fn holdings(&self, alloc: Global, room: usize) -> Result<Vec<Holding>, AllocError>
         ensures { IfOk result (λ held. held.items ≡ map kept_holding (holdings_from self.now (length self.now))) }
     {

@@ -1,4 +1,4 @@
-//! Why positions and orders do not fit accepted tables. `at` is a record's number, from 1.
+//! The reasons why positions and orders do not fit accepted tables. `at` is a record's number, from 1.
 ghost use Rattle.binding.specs.declared.faults.BindFault.TheVariants as bind;
 ghost use Rattle.binding.specs.declared.faults.OrderBindFault.TheVariants as order;
 ghost use Rattle.std.specs.Prelude.{◌≡◌};
@@ -9,7 +9,7 @@ use std::error::Error;
 use std::fmt;
 use std::fmt::Display;
 
-/// Why positions do not fit the tables.
+/// The reasons why positions do not fit the tables.
 #[derive(Debug, Drop, PartialEq, Eq)]
 pub enum BindFault {
     /// B1: a contract that the tables do not have.
@@ -22,7 +22,7 @@ pub enum BindFault {
     OutOfMemory,
 }
 
-/// Why orders do not fit the tables and the portfolios of accounts.
+/// The reasons why orders do not fit the tables and the portfolios of accounts.
 #[derive(Debug, Drop, PartialEq, Eq)]
 pub enum OrderBindFault {
     /// B1: a contract that the tables do not have.

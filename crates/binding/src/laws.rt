@@ -1,4 +1,4 @@
-//! Laws of binding, in the methodology's words: each is the contract of a function that does nothing.
+//! Lemmas about binding, in the terms of the method. Each is the contract of a function with an empty body.
 ghost use Rattle.std.specs.Prelude.{◌≡◌, ◌≤◌, ◌&&◌, ℕ, false, true, length, map};
 ghost use Rattle.std.specs.Prelude.{nat_abs, List, Some, None};
 ghost use Rattle.std.specs.List.{list_any};
@@ -12,7 +12,8 @@ ghost use Rattle.span_tables.specs.declared.limits.TheConstants.{MAX_HELD, MAX_N
 ghost use Rattle.span_tables.specs.declared.records.Contract.{Contract};
 ghost use Rattle.span_tables.specs.declared.records.PositionRecord.{PositionRecord};
 
-/// Positions without a fault are of known contracts, and each account's nets and held contracts are within the limits.
+/// Positions without a fault are of known contracts, and the nets and the number of contracts of each account are
+/// within the limits.
 pub fn accepted_positions_are_within_limits()
     ensures known { (contracts : List Contract) (all : List PositionRecord) → bind_fault contracts all ≡ None
         → list_any (is_unknown contracts) all ≡ false }
@@ -23,7 +24,7 @@ pub fn accepted_positions_are_within_limits()
         → length (holdings_of contracts all account) ≤ MAX_HELD }
 {}
 
-/// An unknown contract goes before a net out of range, and that before too many contracts held.
+/// An unknown contract is reported before a net out of range, and a net out of range before too many contracts held.
 pub fn faults_of_positions_go_in_order()
     ensures unknown { (contracts : List Contract) (all : List PositionRecord) (y : BindFault)
         → first_unfit bind.UnknownContract (λ earlier p. is_unknown contracts p) all ≡ Some y

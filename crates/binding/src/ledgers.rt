@@ -17,14 +17,14 @@ use span_tables::records::NumberedPosition;
 use std::alloc::{AllocError, Global};
 use std::marker::Model;
 
-/// A position record of an account: the number of its contract, and its quantity.
+/// A position record of an account: the number of its contract, and its quantity in contracts.
 #[derive(Clone, Copy)]
 pub(crate) struct Entry {
     pub(crate) contract: usize,
     pub(crate) quantity: i64,
 }
 
-/// The entries of one account, in file order. Contracts see the list of them.
+/// The entries of one account, in file order. Contracts see the list of the entries.
 #[derive(Drop)]
 pub(crate) struct Ledger {
     entries: Vec<Entry>,
@@ -59,7 +59,7 @@ impl Ledger {
         Ok(())
     }
 
-    // What is held, as entries, with room for so many more.
+    // Holdings as entries, with room for `more` entries.
     fn of_held(alloc: Global, holdings: &[Holding], more: usize) -> Result<Ledger, AllocError>
         requires { ArePortfolio holdings.now }
         ensures { IfOk result (λ ledger. ledger ≡ held_entries holdings.now) }
@@ -76,7 +76,7 @@ impl Ledger {
         Ok(ledger)
     }
 
-    /// What is held, as entries, and the entries of an order behind them.
+    /// Returns holdings as entries, followed by the entries of an order.
     pub(crate) fn after(
         alloc: Global,
         holdings: &[Holding],
@@ -90,7 +90,7 @@ impl Ledger {
         Ok(ledger)
     }
 
-    /// The entries in their order.
+    /// Returns the entries in their order.
     pub(crate) fn as_slice(&self) -> &[Entry]
         ensures value { result.now ≡ self.now }
         ensures quantities { All (λ e. nat_abs e.quantity ≤ MAX_QUANTITY) self.now }
@@ -99,7 +99,7 @@ impl Ledger {
     }
 }
 
-// The entry of a record, or `None` where its contract is not known.
+// The entry of a record, or `None` if its contract is not known.
 #[tactic(auto, unfolding(crate::specs::near::Ledgers::known_entry))]
 fn known_entry(numbers: &IndexSet<Name>, position: &NumberedPosition) -> Option<Entry>
     ensures entry { result ≡ known_entry numbers.now.keys position.now.contract position.now.quantity }
@@ -112,7 +112,7 @@ fn known_entry(numbers: &IndexSet<Name>, position: &NumberedPosition) -> Option<
     })
 }
 
-// Whether a record is of one of so many accounts from one on.
+// Whether a record is of one of `count` accounts from number `first` on.
 #[inline(always)]
 fn is_of(position: &NumberedPosition, first: usize, count: usize) -> bool
     ensures { result ≡ is_of first count position.now }
@@ -121,7 +121,7 @@ fn is_of(position: &NumberedPosition, first: usize, count: usize) -> bool
     first <= account && account - first < count
 }
 
-// How many records stand in front of the first one of these accounts.
+// The number of records before the first record of these accounts.
 fn records_before(records: &[NumberedPosition], first: usize, count: usize) -> usize
     ensures bound { result ≤ length records.now }
     ensures others { AllWithin (λ p. is_of first count p ≡ false) records.now 0 result }
@@ -133,7 +133,7 @@ fn records_before(records: &[NumberedPosition], first: usize, count: usize) -> u
     start
 }
 
-// Where the records of these accounts end: behind the last of them.
+// The end of the records of these accounts: the index after the last one.
 fn records_end(records: &[NumberedPosition], first: usize, count: usize) -> usize
     ensures bound { result ≤ length records.now }
     ensures others { AllWithin (λ p. is_of first count p ≡ false) records.now result (length records.now) }
@@ -145,7 +145,8 @@ fn records_end(records: &[NumberedPosition], first: usize, count: usize) -> usiz
     end
 }
 
-// How many of these records there are of each of so many accounts from one on: the room that its ledger needs.
+// The number of these records for each of `count` accounts from number `first` on, which is the room that its ledger
+// needs.
 fn rooms(
     alloc: Global,
     records: &[NumberedPosition],
@@ -164,7 +165,7 @@ fn rooms(
     Ok(rooms)
 }
 
-// A ledger without an entry for each of so many accounts from one on, with room for its entries in these records.
+// An empty ledger for each of `count` accounts from number `first` on, with room for its entries in these records.
 fn empty_ledgers(
     alloc: Global,
     records: &[NumberedPosition],
@@ -181,16 +182,17 @@ fn empty_ledgers(
     Ok(ledgers)
 }
 
-/// The records of a position file, gathered.
+/// The gathered records of a position file.
 #[derive(Drop)]
 pub(crate) struct Gathered {
-    /// The entries of each account, of the records of contracts that are known.
+    /// The entries of each account, from the records of known contracts.
     pub(crate) ledgers: Vec<Ledger>,
     /// The faults of the other records.
     pub(crate) unknown: Vec<BindFault>,
 }
 
-/// The ledgers of the accounts of positions, and the faults of the records whose contracts are not among these.
+/// Returns the ledgers of the accounts of positions, and the faults of the records whose contracts are not among the
+/// ids.
 #[tactic(auto, unfolding(crate::specs::near::Ledgers::known_entry))]
 pub(crate) fn gather(
     alloc: Global,
@@ -218,7 +220,7 @@ pub(crate) fn gather(
     Ok(Gathered { ledgers, unknown })
 }
 
-// The entry of the record of a number, from 0, where the places of the contracts of all records were found before.
+// The entry of a record, given by its number from 0, from the found indexes of the contracts of all records.
 fn found_entry(found: &[u16], number: usize, position: &NumberedPosition) -> Entry
     requires { number < length found.now }
     ensures { result ≡ record { contract = slice_index_or found.now number 0; quantity = position.now.quantity } }
@@ -229,9 +231,9 @@ fn found_entry(found: &[u16], number: usize, position: &NumberedPosition) -> Ent
     }
 }
 
-/// The ledgers of so many accounts from one on, where the places of the contracts of all records were found before; a contract that is not
-/// among the ids has the place behind them. In a file that is in the order of its accounts the records of others are looked at once, and
-/// no more.
+/// Returns the ledgers of `count` accounts from number `first` on, from the found indexes of the contracts of all
+/// records. A contract that is not among the ids has the number of ids as its index. If the file is sorted by account,
+/// each record of another account is read only once.
 pub(crate) fn ledgers_from(
     alloc: Global,
     numbers: &IndexSet<Name>,

@@ -16,8 +16,8 @@ use span_tables::portfolios::Holding;
 use std::alloc::{AllocError, Global};
 use std::marker::Model;
 
-/// What one account holds, whatever the sizes of its nets; one over the limit stands as the least that is. Contracts
-/// see the list.
+/// The holdings of one account, with nets of any size. A net over the limit is stored as `MAX_NET + 1`. Contracts see
+/// the list of the holdings.
 #[derive(Drop)]
 pub struct AccountNets {
     holdings: Vec<Holding>,
@@ -35,14 +35,14 @@ impl Model for AccountNets {
     ghost invariant = { λ n. IsStrictlyIncreasing (map (λ h. h.contract) n.holdings.items) };
 }
 
-/// Whether a net is over the limit either way.
+/// Returns whether a net is over the limit, long or short.
 pub(crate) fn is_over(holding: &Holding) -> bool
     ensures { result ≡ is_over holding.now }
 {
     holding.net.unsigned_abs() > MAX_NET
 }
 
-// The nets that are over the limit either way.
+// The nets that are over the limit, long or short.
 fn all_over(alloc: Global, holdings: &[Holding]) -> Result<Vec<Holding>, AllocError>
     ensures { IfOk result (λ over. over.items ≡ filter is_over holdings.now) }
 {
@@ -57,7 +57,7 @@ impl AccountNets {
     ghost use Rattle.std.specs.Prelude.{map};
     ghost use Rattle.std.specs.List.Sorted.{IsStrictlyIncreasing};
 
-    /// The holdings by rising contract number.
+    /// Returns the holdings by increasing contract number.
     pub(crate) fn as_slice(&self) -> &[Holding]
         ensures value { result.now ≡ self.now }
         ensures rising { IsStrictlyIncreasing (map (λ h. h.contract) self.now) }
@@ -65,7 +65,7 @@ impl AccountNets {
         &self.holdings
     }
 
-    /// The nets that are over the limit either way.
+    /// Returns the nets that are over the limit, long or short.
     pub(crate) fn over(&self, alloc: Global) -> Result<AccountNets, AllocError>
         ensures { IfOk result (λ nets. nets ≡ filter is_over self.now) }
     {
@@ -73,7 +73,7 @@ impl AccountNets {
         Ok(AccountNets { holdings })
     }
 
-    /// The holdings by rising contract number, handed over.
+    /// Converts the nets into the list of holdings by increasing contract number.
     pub(crate) fn into_vec(self) -> Vec<Holding>
         ensures { result.items ≡ self }
     {
@@ -81,7 +81,7 @@ impl AccountNets {
     }
 }
 
-// Adds an entry's quantity to the net of its contract; one of no contract adds nothing.
+// Adds an entry's quantity to the net of its contract. An entry of an unknown contract is ignored.
 fn add(nets: &mut Sums, entry: &Entry)
     requires quantity { nat_abs entry.now.quantity ≤ MAX_QUANTITY }
     requires room { nat_abs (slice_index_or nets.old entry.now.contract (pos 0)) + MAX_QUANTITY < 2 ^ 127 }
@@ -91,7 +91,7 @@ fn add(nets: &mut Sums, entry: &Entry)
     nets.add(entry.contract, entry.quantity);
 }
 
-// Adds each entry's quantity to the net of its contract, from nets of 0.
+// Adds each entry's quantity to the net of its contract. All nets are 0 at the start.
 fn add_all(nets: &mut Sums, entries: &[Entry])
     requires zero { nets.old ≡ replicate (length nets.old) (pos 0) }
     requires quantities { All (λ e. nat_abs e.quantity ≤ MAX_QUANTITY) entries.now }
@@ -102,7 +102,7 @@ fn add_all(nets: &mut Sums, entries: &[Entry])
     }
 }
 
-/// What an account of these entries holds, of so many contracts. What was in the sums is lost.
+/// Returns the holdings of an account with these entries, in the given number of contracts. The previous sums are lost.
 pub(crate) fn account_nets(
     alloc: Global,
     sums: &mut Sums,
@@ -118,7 +118,7 @@ pub(crate) fn account_nets(
     Ok(AccountNets { holdings })
 }
 
-/// What the account of each ledger holds, of the contracts of these ids.
+/// Returns the holdings of the account of each ledger, in the contracts of these ids.
 pub(crate) fn all_nets(
     alloc: Global,
     numbers: &IndexSet<Name>,

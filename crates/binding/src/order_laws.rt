@@ -1,4 +1,4 @@
-//! Laws of orders that are tried, in the methodology's words: each is the contract of a function that does nothing.
+//! Lemmas about evaluated orders, in the terms of the method. Each is the contract of a function with an empty body.
 ghost use Rattle.std.specs.Prelude.{◌≡◌, ◌&&◌, ◌++◌, ℕ, List, None, Some, All, bytes_eq, false, filter, length, true};
 ghost use Rattle.std.specs.List.{list_any};
 ghost use Rattle.binding.specs.OrderBinding.{exceeds_held_with, exceeds_net_with, first_unfit_order, is_first_of_leg};
@@ -14,8 +14,8 @@ ghost use Rattle.span_tables.specs.declared.records.Contract.{Contract};
 ghost use Rattle.span_tables.specs.declared.records.OrderRecord.{OrderRecord};
 ghost use Rattle.span_tables.specs.declared.records.PositionRecord.{PositionRecord};
 
-/// On the portfolios of positions, an order's account holds without the order what it holds by the positions, and with it what it
-/// holds by the positions and the order's records behind them.
+/// On the portfolios of positions, an order's account has the holdings of the positions without the order. With the
+/// order it has the holdings of the positions followed by the order's records.
 pub fn orders_are_tried_on_the_positions()
     ensures before { (contracts : List Contract) (positions : List PositionRecord) (records : List OrderRecord) (order : List ℕ)
         → holdings_before (portfolios_of contracts positions) records order
@@ -25,7 +25,7 @@ pub fn orders_are_tried_on_the_positions()
         ≡ holdings_of contracts (positions ++ positions_of_order records order) (account_of_order records order) }
 {}
 
-/// Of two files with the same records of an order, the order is the same: orders do not see one another.
+/// If two files have the same records of an order, the order is the same in both. Orders do not affect each other.
 pub fn orders_do_not_see_one_another()
     ensures same { (contracts : List Contract) (portfolios : List AccountHoldings) (these those : List OrderRecord) (order : List ℕ)
         → filter (λ r. bytes_eq r.order order) these ≡ filter (λ r. bytes_eq r.order order) those
@@ -35,8 +35,8 @@ pub fn orders_do_not_see_one_another()
         ≡ tried_order contracts portfolios records order }
 {}
 
-/// Orders without a fault are of known contracts, and each order's account holds a portfolio with it: few contracts, and each net within
-/// its limit.
+/// Orders without a fault are of known contracts. The account of each order has a portfolio with it: the number of
+/// contracts and each net are within the limits.
 pub fn accepted_orders_are_within_limits()
     ensures known { (contracts : List Contract) (portfolios : List AccountHoldings) (all : List OrderRecord)
         → order_bind_fault contracts portfolios all ≡ None → list_any (is_of_unknown contracts) all ≡ false }
@@ -46,13 +46,14 @@ pub fn accepted_orders_are_within_limits()
         → (order : List ℕ) → is_among (orders_in all) order ≡ true → ArePortfolio (holdings_after contracts portfolios all order) }
 {}
 
-/// What an order's account holds with it is of contracts that the tables have.
+/// The holdings of an order's account with the order are in contracts that the tables have.
 pub fn orders_are_of_contracts_that_there_are()
     ensures { (contracts : List Contract) (portfolios : List AccountHoldings) (all : List OrderRecord) (order : List ℕ)
         → fits (length contracts) (holdings_after contracts portfolios all order) ≡ true }
 {}
 
-/// An unknown contract goes before a net out of range, and that before too many contracts held, over all orders.
+/// Over all orders, an unknown contract is reported before a net out of range, and a net out of range before too many
+/// contracts held.
 pub fn faults_of_orders_go_in_order()
     ensures unknown { (contracts : List Contract) (portfolios : List AccountHoldings) (all : List OrderRecord) (y : OrderBindFault)
         → first_unfit_order order.UnknownContract (λ earlier r. is_of_unknown contracts r) all ≡ Some y

@@ -1,4 +1,4 @@
-//! Worked orders, computed by the definitions alone.
+//! Test vectors for orders, computed by the definitions alone.
 #![tactic(auto, unfolding(crate::specs::near::OnLiterals::on_literals))]
 
 ghost use Rattle.std.specs.List.{repeat};
@@ -24,14 +24,14 @@ fn orders_that_fit()
         }) }
 {}
 
-// B2: the account's net with the order is judged, and the first record of the order and contract is named.
+// B2: the account's net with the order is checked, and the first record of the order and contract is reported.
 fn net_with_the_position()
     ensures { order_bind_fault (contract_of (codes "FA") ∷ contract_of (codes "FB") ∷ []) (portfolio_of (codes "X") 1 (pos MAX_NET) ∷ [])
         (order_of (codes "T") (codes "X") (codes "FA") (pos 1) ∷ order_of (codes "T") (codes "X") (codes "FB") (pos 1) ∷ [])
         ≡ Some (order.NetOutOfRange 2 (codes "T")) }
 {}
 
-// An order that is over the limit by itself, and not with the position.
+// An order that is over the limit by itself, but not together with the position.
 fn order_against_the_position()
     ensures { order_bind_fault (contract_of (codes "FA") ∷ []) (portfolio_of (codes "X") 0 (neg_ℤ (pos 1)) ∷ [])
         (order_of (codes "T") (codes "X") (codes "FA") (pos (MAX_NET + 1)) ∷ [])
@@ -45,15 +45,15 @@ fn two_orders_of_one_account()
         ≡ None }
 {}
 
-// B1 of the last record, before B2 of the first.
+// B1 of the last record is reported before B2 of the first.
 fn unknown_contract_of_an_order()
     ensures { order_bind_fault (contract_of (codes "FA") ∷ []) []
         (order_of (codes "T") (codes "X") (codes "FA") (pos (MAX_NET + 1)) ∷ order_of (codes "U") (codes "X") (codes "ZZ") (pos 1) ∷ [])
         ≡ Some (order.UnknownContract 2 (codes "U")) }
 {}
 
-// B3: with one contract more than may be held an order is named, with its first record. One record of a contract is a holding for each
-// time that the contract is listed.
+// B3: with one contract more than allowed an order is reported, at its first record. A contract that is listed several
+// times gives one holding for each time, from a single record.
 fn one_contract_too_many_with_an_order()
     ensures within { order_bind_fault (contract_of (codes "FB") ∷ repeat MAX_HELD (contract_of (codes "FA") ∷ [])) []
         (order_of (codes "T") (codes "Y") (codes "FB") (pos 1) ∷ order_of (codes "U") (codes "X") (codes "FA") (pos 1) ∷ [])

@@ -26,8 +26,9 @@ use span_tables::tables::Tables;
 use std::alloc::{AllocError, Global};
 use std::marker::Model;
 
-/// The orders of a file, in the order of first appearance, and the portfolios of the accounts that they are tried on. Contracts see of
-/// an order its name, and the portfolio of its account without it and with it; these are made when they are asked for.
+/// The orders of a file, in the order of first appearance, and the portfolios of the accounts on which they are
+/// evaluated. Contracts see the name of each order, and the portfolio of its account without it and with it. These
+/// portfolios are made on request.
 #[derive(Drop)]
 pub struct Orders {
     contracts: usize,
@@ -48,21 +49,21 @@ impl Model for Orders {
 }
 
 impl Orders {
-    /// How many orders there are.
+    /// Returns the number of orders.
     pub fn len(&self) -> usize
         ensures { result ≡ length self.now.orders }
     {
         self.orders.len()
     }
 
-    /// The portfolios of the accounts, in their order.
+    /// Returns the portfolios of the accounts, in their order.
     pub fn portfolios(&self) -> &[Portfolio]
         ensures { result.now ≡ self.now.portfolios }
     {
         self.portfolios.as_slice()
     }
 
-    /// The name of the order of a number, from 0.
+    /// Returns the name of an order, given by its number from 0.
     pub fn name(&self, order: usize) -> &Name
         requires { order < length self.now.orders }
         ensures { option_map (λ o. o.order) (slice_get self.now.orders order) ≡ Some result.now }
@@ -70,7 +71,8 @@ impl Orders {
         &self.orders[order].name
     }
 
-    /// The place of the portfolio of an order's account, or `None` if the account holds nothing without the order.
+    /// Returns the index of the portfolio of an order's account, or `None` if the account has no holdings without the
+    /// order.
     pub fn place(&self, order: usize) -> Option<usize>
         requires { order < length self.now.orders }
         ensures { MatchOption result
@@ -84,7 +86,7 @@ impl Orders {
         }
     }
 
-    /// The portfolios of the accounts of so many orders from one on, each with its order.
+    /// Returns the portfolios of the accounts of `count` orders from number `first` on, each with its order.
     pub fn portfolios_with(
         &self,
         alloc: Global,
@@ -98,7 +100,7 @@ impl Orders {
     }
 }
 
-// A fault of positions that are records of orders under their names, as one of orders.
+// A fault of order records that were read as positions under the orders' names, as a fault of orders.
 fn order_fault(fault: BindFault) -> OrderBindFault
     ensures { result ≡ order_fault fault }
 {
@@ -117,7 +119,7 @@ fn order_fault(fault: BindFault) -> OrderBindFault
     }
 }
 
-// The orders of a file, tried on the portfolios of accounts, or their fault, by the ids of the contracts.
+// The orders of a file, evaluated on the portfolios of accounts, or their fault. The contracts are given by their ids.
 fn bind_orders_of(
     alloc: Global,
     numbers: &IndexSet<Name>,
@@ -154,8 +156,9 @@ fn bind_orders_of(
 
 /// Binds orders to the contracts of accepted tables. Clauses see the list of the contracts' ids, by contract number.
 ///
-/// It is made once for a set, and binds any number of orders. Each order costs one word for each 64 contracts of the set, and otherwise
-/// only what the order and its account hold; no call goes over the contracts themselves.
+/// A binder is made once for a parameter set, and binds any number of orders. Each order costs one word for each 64
+/// contracts of the set. Otherwise its cost depends only on the order and the holdings of its account, since no call
+/// reads the contracts themselves.
 #[derive(Drop)]
 pub struct OrderBinder {
     numbers: IndexSet<Name>,
@@ -174,7 +177,8 @@ impl Model for OrderBinder {
 }
 
 impl OrderBinder {
-    /// A binder to the contracts of these tables. It fails only if it runs out of memory, as does `portfolio_after`.
+    /// Returns a binder to the contracts of these tables. It fails only if it runs out of memory, as does
+    /// `portfolio_after`.
     pub fn new(alloc: Global, tables: &Tables) -> Result<OrderBinder, AllocError>
         ensures { IfOk result (λ binder. binder ≡ ids_of tables.now.contracts) }
     {
@@ -183,7 +187,8 @@ impl OrderBinder {
         Ok(OrderBinder { numbers, sums })
     }
 
-    /// The orders of a file with the portfolios of their accounts, or the fault of the orders, of B1 to B3 (docs/FORMATS.md, "Faults").
+    /// Returns the orders of a file with the portfolios of their accounts, or the fault of the orders, B1 to B3
+    /// (docs/FORMATS.md, "Faults").
     pub fn bind(
         &mut self,
         alloc: Global,
@@ -197,8 +202,8 @@ impl OrderBinder {
         bind_orders_of(alloc, &self.numbers, &mut self.sums, portfolios, orders)
     }
 
-    /// The portfolio of the account of the order of a number, from 0, with that order. These may be orders of another binder; if it has
-    /// more or fewer contracts, memory for their sums is allocated again.
+    /// Returns the portfolio of the account of an order with that order, given by its number from 0. The orders may be
+    /// from another binder. If it has a different number of contracts, memory for their sums is allocated again.
     pub fn portfolio_after(
         &mut self,
         alloc: Global,
@@ -215,7 +220,8 @@ impl OrderBinder {
     }
 }
 
-/// The orders of a file, tried on the portfolios of accounts, or the fault of the orders, of B1 to B3 (docs/FORMATS.md, "Faults").
+/// Returns the orders of a file, evaluated on the portfolios of accounts, or the fault of the orders, B1 to B3
+/// (docs/FORMATS.md, "Faults").
 pub fn bind_orders(
     alloc: Global,
     tables: &Tables,

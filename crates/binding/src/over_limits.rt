@@ -1,4 +1,4 @@
-//! The records whose nets or whose accounts exceed a limit.
+//! The records whose net or whose account exceeds a limit.
 ghost use Rattle.std.specs.Prelude.{◌≡◌, ◌&&◌, ◌||◌, not, Some, bytes_eq, map, position, IfOk, OnOk};
 ghost use Rattle.std.specs.List.Sorted.{IsStrictlyIncreasing};
 ghost use Rattle.std.specs.List.{list_any};
@@ -16,21 +16,21 @@ use span_tables::raw::RawPositions;
 use span_tables::records::NumberedPosition;
 use std::alloc::{AllocError, Global};
 
-/// What of an account has a limit.
+/// The limits of an account.
 #[derive(Clone, Copy)]
 pub(crate) enum Limit {
-    /// B2: the net in a contract, either way.
+    /// B2: the limit of the net in a contract, long or short.
     Net,
-    /// B3: how many contracts are held.
+    /// B3: the limit of the number of contracts held.
     Held,
 }
 
-/// What of what an account holds is over a limit.
+/// The part of an account's holdings that is over a limit.
 #[derive(Drop)]
 pub(crate) struct Excess {
-    // The nets that are.
+    // The nets over the limit.
     over: AccountNets,
-    // Whether more contracts are held than may be.
+    // Whether more contracts are held than allowed.
     many: bool,
 }
 
@@ -41,7 +41,7 @@ fn has_over(holdings: &[Holding]) -> bool
     holdings.iter().any(|holding| is_over(holding))
 }
 
-// Whether the net in the contract of a number is over the limit.
+// Whether the net in a contract, given by its number, is over the limit.
 fn is_over_at(holdings: &[Holding], contract: usize) -> bool
     requires { IsStrictlyIncreasing (map (λ h. h.contract) holdings.now) }
     ensures { result ≡ is_over_at contract holdings.now }
@@ -52,14 +52,14 @@ fn is_over_at(holdings: &[Holding], contract: usize) -> bool
     }
 }
 
-// Whether more contracts are held than may be.
+// Whether more contracts are held than allowed.
 fn are_many(holdings: &[Holding]) -> bool
     ensures { result ≡ are_many holdings.now }
 {
     holdings.len() > MAX_HELD
 }
 
-/// What of what an account holds is over a limit.
+/// Returns the part of an account's holdings that is over a limit.
 pub(crate) fn excess_of(alloc: Global, nets: &AccountNets) -> Result<Excess, AllocError>
     ensures { IfOk result (λ excess. excess ≡ excess_of nets.now) }
 {
@@ -68,7 +68,7 @@ pub(crate) fn excess_of(alloc: Global, nets: &AccountNets) -> Result<Excess, All
     Ok(Excess { over, many })
 }
 
-/// What of what each account holds is over a limit.
+/// Returns the part of each account's holdings that is over a limit.
 pub(crate) fn excesses_of(alloc: Global, nets: &[AccountNets]) -> Result<Vec<Excess>, AllocError>
     ensures { IfOk result (λ excesses. excesses.items ≡ map excess_of nets.now) }
 {
@@ -79,7 +79,7 @@ pub(crate) fn excesses_of(alloc: Global, nets: &[AccountNets]) -> Result<Vec<Exc
     Ok(excesses)
 }
 
-// Whether some net of what is held, or the number of contracts, exceeds a limit.
+// Whether some net of the holdings, or the number of contracts, exceeds a limit.
 fn exceeds_any(limit: Limit, excess: &Excess) -> bool
     ensures { result ≡ exceeds_any limit excess.now }
 {
@@ -89,14 +89,14 @@ fn exceeds_any(limit: Limit, excess: &Excess) -> bool
     }
 }
 
-// Whether what some account holds exceeds a limit.
+// Whether the holdings of some account exceed a limit.
 fn some_exceeds(limit: Limit, excesses: &[Excess]) -> bool
     ensures { result ≡ list_any (exceeds_any limit) excesses.now }
 {
     excesses.iter().any(|excess| exceeds_any(limit, excess))
 }
 
-// Whether what an account holds exceeds a limit at a contract, which has a number where it is known.
+// Whether an account's holdings exceed a limit at a contract. A known contract has a number.
 fn exceeds_in(limit: Limit, excess: &Excess, contract: Option<usize>) -> bool
     ensures { result ≡ exceeds_in limit contract excess.now }
 {
@@ -134,14 +134,14 @@ fn fault_of(limit: Limit, at: usize, account: Name) -> BindFault
     }
 }
 
-/// What a record is told as: its account, and of a net the contract.
+/// The key under which a record is reported: its account, and for a net also the contract.
 #[derive(Debug, Drop, PartialEq, Eq, Hash)]
 pub(crate) struct Told {
     account: Name,
     contract: Option<Name>,
 }
 
-// What a record of an account and a contract is told as.
+// The key of a record of an account and a contract.
 fn told_as(limit: Limit, account: &Name, contract: &Name) -> Told
     ensures { result ≡ told_as limit account.now contract.now }
 {
@@ -154,7 +154,7 @@ fn told_as(limit: Limit, account: &Name, contract: &Name) -> Told
     }
 }
 
-// Takes what a record is told as among those so far, and says whether it was not among them.
+// Adds a key to the keys so far, and returns whether it is new.
 fn is_new(told: &mut IndexSet<Told>, next: Told) -> Result<bool, AllocError>
     ensures fresh { IfOk result (λ fresh. fresh ≡ not (is_told told.old.keys next)) }
     ensures members { OnOk result ((t : Told)
@@ -164,7 +164,7 @@ fn is_new(told: &mut IndexSet<Told>, next: Told) -> Result<bool, AllocError>
     Ok(is_new)
 }
 
-// Whether a record of an account exceeds a limit where none that is told as it is did; it is told from then on.
+// Whether a record of an account exceeds a limit and no record with the same key did before. If so, the key is added.
 fn exceeds_anew(
     limit: Limit,
     numbers: &IndexSet<Name>,
@@ -186,8 +186,8 @@ fn exceeds_anew(
     is_new(told, told_as(limit, account, &numbered.contract))
 }
 
-// The faults of the records that exceed a limit, by what each account has over it. An account and contract, or an account, has one
-// fault, at its first record over the limit.
+// The faults of the records that exceed a limit, from the excess of each account. There is one fault for each account
+// and contract, or for each account, at its first record over the limit.
 fn limit_faults(
     alloc: Global,
     limit: Limit,
@@ -212,8 +212,8 @@ fn limit_faults(
     Ok(faults)
 }
 
-/// All faults of records, in order: the given faults of unknown contracts, then nets over the limit, and then accounts that hold too
-/// many contracts, by what each account has over the limits.
+/// Returns all faults of records, from the excess of each account. First come the given faults of unknown contracts,
+/// then nets over the limit, and then accounts with too many contracts.
 pub(crate) fn all_faults(
     alloc: Global,
     numbers: &IndexSet<Name>,
@@ -231,7 +231,7 @@ pub(crate) fn all_faults(
     Ok(faults)
 }
 
-/// The first of some faults, if there is one.
+/// Returns the first of a list of faults, if there is one.
 pub(crate) fn first(faults: Vec<BindFault>) -> Option<BindFault>
     ensures { result ≡ first_of faults.items }
 {

@@ -39,7 +39,7 @@ fn portfolios_from(
     Ok(Portfolios::new(all))
 }
 
-// All faults of positions whose accounts have these nets, beside those of the records of unknown contracts.
+// All faults of positions whose accounts have these nets. The faults of records of unknown contracts are given.
 fn faults_of(
     alloc: Global,
     numbers: &IndexSet<Name>,
@@ -55,7 +55,7 @@ fn faults_of(
     all_faults(alloc, numbers, unknown, &excesses, positions)
 }
 
-/// The portfolios of accounts with these nets, or the first fault of the positions.
+/// Returns the portfolios of accounts with these nets, or the first fault of the positions.
 pub(crate) fn portfolios_or_fault(
     alloc: Global,
     numbers: &IndexSet<Name>,
@@ -75,7 +75,8 @@ pub(crate) fn portfolios_or_fault(
     Ok(all)
 }
 
-/// What each account holds of these contracts, or the fault of the records; the ids of the contracts are apart.
+/// Returns the holdings of each account in these contracts, or the fault of the records. The ids of the contracts must
+/// be distinct.
 pub fn bind_positions(
     alloc: Global,
     contracts: &[Contract],
@@ -90,8 +91,9 @@ pub fn bind_positions(
     portfolios_or_fault(alloc, &numbers, gathered.unknown, nets, positions)
 }
 
-/// All faults of the positions, of B1 to B3 (docs/FORMATS.md, "All faults"): each record whose contract the tables do not have, and then,
-/// as if these records were not there, each net out of range and each account that holds too many contracts.
+/// Returns all faults of the positions, B1 to B3 (docs/FORMATS.md, "All faults"). First comes each record whose
+/// contract the tables do not have. Without these records, each net out of range follows, and then each account that
+/// holds too many contracts.
 pub fn bind_faults(
     alloc: Global,
     tables: &Tables,
@@ -105,8 +107,9 @@ pub fn bind_faults(
     faults_of(alloc, &numbers, gathered.unknown, &nets, positions)
 }
 
-/// What each account holds, by the accounts' first appearance (docs/METHOD.md, "Positions"), or the fault of the
-/// positions, of B1 to B3 (docs/FORMATS.md, "Faults"). Nets are in contracts; a short one is negative.
+/// Returns the holdings of each account, in the order of the accounts' first appearance (docs/METHOD.md, "Positions"),
+/// or the fault of the positions, B1 to B3 (docs/FORMATS.md, "Faults"). Nets are in contracts, and a short net is
+/// negative.
 pub fn bind(
     alloc: Global,
     tables: &Tables,

@@ -1,4 +1,4 @@
-//! Trades, and the records of an order that consists of them.
+//! Trades, and the records of an order that is made of trades.
 ghost use Rattle.std.specs.Prelude.{◌≡◌, ◌≤◌, All, IfOk, map, nat_abs};
 ghost use Rattle.binding.specs.OrderBinding.{trade_record};
 ghost use Rattle.binding.specs.near.Trades.{numbered_trade};
@@ -10,14 +10,14 @@ use span_tables::raw::{RawOrders, RawPositions};
 use span_tables::records::NumberedPosition;
 use std::alloc::{AllocError, Global};
 
-/// A contract, and the quantity that is traded in it, in contracts: what is sold is negative.
+/// A traded contract and its quantity, in contracts. The quantity of a sale is negative.
 #[derive(Drop)]
 pub struct Trade {
     pub contract: Name,
     pub quantity: i32,
 }
 
-// A trade as a record of the order of number 0.
+// A trade as a record of order number 0.
 fn numbered_trade(trade: &Trade) -> NumberedPosition
     ensures { result ≡ numbered_trade trade.now }
 {
@@ -28,7 +28,7 @@ fn numbered_trade(trade: &Trade) -> NumberedPosition
     }
 }
 
-// The trades as records of the order of number 0.
+// The trades as records of order number 0.
 fn numbered_trades(alloc: Global, trades: &[Trade]) -> Result<Vec<NumberedPosition>, AllocError>
     ensures { IfOk result (λ records. records.items ≡ map numbered_trade trades.now) }
 {
@@ -39,7 +39,7 @@ fn numbered_trades(alloc: Global, trades: &[Trade]) -> Result<Vec<NumberedPositi
     Ok(records)
 }
 
-/// The records of one order of an account: one for each trade. It fails only if it runs out of memory.
+/// Returns the records of one order of an account, one for each trade. It fails only if it runs out of memory.
 pub fn order_of_trades(
     alloc: Global,
     order: &Name,

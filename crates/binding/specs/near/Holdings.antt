@@ -15,7 +15,7 @@ use Rattle.binding.specs.declared.over_limits.Told.{Told}
 use Rattle.binding.specs.declared.faults.BindFault.{BindFault}
 use Rattle.binding.specs.declared.faults.BindFault.TheVariants as fault
 
--- two names are the same, or neither is there
+-- two names are the same, or both are missing
 abbrev pub is_same_name : Option (List ℕ) → Option (List ℕ) → Bool
 is_same_name (Some x) (Some y) = bytes_eq x y
 is_same_name None None = true
@@ -25,34 +25,34 @@ is_same_name _ _ = false
 abbrev pub ids_of : List Contract → List (List ℕ)
 ids_of contracts = map (λ x. x.id) contracts
 
--- the net is over the limit either way
+-- the net is over the limit, long or short
 abbrev pub is_over : Holding → Bool
 is_over h = nat_lt MAX_NET (nat_abs h.net)
 
--- the net in the contract of a number is over the limit
+-- the net in contract c is over the limit
 abbrev pub is_over_at : ℕ → List Holding → Bool
 is_over_at c holdings = list_any (λ h. (h.contract == c) && is_over h) holdings
 
--- more contracts are held than may be
+-- more contracts are held than allowed
 abbrev pub are_many : List Holding → Bool
 are_many holdings = nat_lt MAX_HELD (length holdings)
 
--- what of what is held is over a limit: the nets that are, and whether more contracts are held than may be
+-- the part of holdings that is over a limit: the nets over the limit, and whether more contracts are held than allowed
 abbrev pub excess_of : List Holding → Excess
 excess_of holdings = record { over = filter is_over holdings; many = are_many holdings }
 
--- some net of what is held, or the number of contracts, exceeds a limit
+-- some net of the holdings, or the number of contracts, exceeds a limit
 abbrev pub exceeds_any : Limit → Excess → Bool
 exceeds_any limit.Net excess = list_any is_over excess.over
 exceeds_any limit.Held excess = excess.many
 
--- what is held exceeds a limit at a contract, which has a number where it is known; at another there is nothing to exceed
+-- holdings exceed a limit at a contract, given by its number; at an unknown contract they exceed none
 abbrev pub exceeds_in : Limit → Option ℕ → Excess → Bool
 exceeds_in limit.Net (Some c) excess = is_over_at c excess.over
 exceeds_in limit.Held (Some c) excess = excess.many
 exceeds_in _ None excess = false
 
--- what an account holds exceeds a limit at a contract, by the places of both
+-- an account's holdings exceed a limit at a contract, both given by their indexes
 abbrev pub exceeds_at : Limit → Option ℕ → Option ℕ → List Excess → Bool
 exceeds_at limit (Some a) c excesses = exceeds_in limit c (slice_index_or excesses a (excess_of []))
 exceeds_at limit None c excesses = false
@@ -67,37 +67,38 @@ abbrev pub fault_of : Limit → ℕ → List ℕ → BindFault
 fault_of limit.Net = fault.NetOutOfRange
 fault_of limit.Held = fault.TooManyHeld
 
--- a record is told of a limit as another: a net of its account and contract, what is held of its account
+-- two records are reported as one: for a net if they have the same account and contract, for held contracts if they
+-- have the same account
 abbrev pub same_told : Limit → PositionRecord → PositionRecord → Bool
 same_told limit.Net x p = bytes_eq x.account p.account && bytes_eq x.contract p.contract
 same_told limit.Held x p = bytes_eq x.account p.account
 
--- a record exceeds a limit, and none of the earlier ones that do is told as it is
+-- a record exceeds a limit, and no earlier record that is reported as one with it does
 abbrev pub exceeds_anew : Limit → List (List ℕ) → List (List ℕ) → List Excess → List PositionRecord → PositionRecord → Bool
 exceeds_anew limit ids accounts excesses earlier p =
     not (list_any (λ x. same_told limit x p && exceeds limit ids accounts excesses x) earlier)
     && exceeds limit ids accounts excesses p
 
--- the faults of the records that exceed a limit, by what each account has over it
+-- the faults of the records that exceed a limit, from the excess of each account
 unfoldable pub limit_faults : Limit → List (List ℕ) → List Excess → List PositionRecord → List BindFault
 limit_faults limit ids excesses positions =
     all_unfit (fault_of limit) (exceeds_anew limit ids (accounts_of positions) excesses) positions
 
--- all faults, if the faults of records of unknown contracts are given
+-- all faults, with the faults of records of unknown contracts given
 unfoldable pub found_faults : List (List ℕ) → List BindFault → List Excess → List PositionRecord → List BindFault
 found_faults ids unknown excesses positions =
     unknown ++ limit_faults limit.Net ids excesses positions ++ limit_faults limit.Held ids excesses positions
 
--- what a record is told as
+-- the key under which a record is reported
 abbrev pub told_as : Limit → List ℕ → List ℕ → Told
 told_as limit.Net account contract = record { account = account; contract = Some contract }
 told_as limit.Held account contract = record { account = account; contract = None }
 
--- two are told alike
+-- two keys are the same
 abbrev pub is_same_told : Told → Told → Bool
 is_same_told x y = bytes_eq x.account y.account && is_same_name x.contract y.contract
 
--- one like this is told
+-- the key is in the list
 abbrev pub is_told : List Told → Told → Bool
 is_told told t = list_any (is_same_told t) told
 

@@ -1,4 +1,4 @@
--- The entries of each account as the binding gathers them, by account in the order of first appearance.
+-- The entries of each account, with the accounts in the order of first appearance.
 use Rattle.std.specs.Prelude.{◌≡◌, ◌≤◌, ◌-◌, ◌&&◌, ℕ, ℤ, Bool, false, nat_le, nat_lt, not, if◌then◌else◌}
 use Rattle.std.specs.Prelude.{List, drop, filter, length, map, take}
 use Rattle.std.specs.Prelude.{Option, Some, None, bytes_eq}
@@ -30,49 +30,49 @@ is_foreign ids p = not (is_listed ids p)
 abbrev pub listed_records : List (List ℕ) → List PositionRecord → List PositionRecord
 listed_records ids positions = filter (is_listed ids) positions
 
--- the place of a contract among the ids, or their count where it is not among them
+-- the index of a contract among the ids, or their number if it is not among them
 abbrev pub contract_place : List (List ℕ) → List ℕ → ℕ
 contract_place ids contract = position_or_len (bytes_eq contract) ids
 
--- the entry of a contract and a quantity, where the contract is among the ids
+-- the entry of a contract and a quantity, if the contract is among the ids
 unfoldable pub known_entry : List (List ℕ) → List ℕ → ℤ → Option Entry
 known_entry ids contract quantity =
     if not (list_any (bytes_eq contract) ids) then None
     else Some (record { contract = position_or_len (bytes_eq contract) ids; quantity = quantity })
 
--- what is held, as entries
+-- a holding as an entry
 abbrev pub held_entry : Holding → Entry
 held_entry h = record { contract = h.contract; quantity = h.net }
 
 abbrev pub held_entries : List Holding → List Entry
 held_entries holdings = map held_entry holdings
 
--- the records whose contracts are not among the ids
+-- the faults of the records whose contracts are not among the ids
 unfoldable pub foreign_faults : List (List ℕ) → List PositionRecord → List BindFault
 foreign_faults ids positions = all_unfit fault.UnknownContract (λ earlier p. is_foreign ids p) positions
 
--- these are ids of contracts, which stand apart, by their numbers
+-- these are distinct ids of contracts, by contract number
 pub record AreNumbers (ids : List (List ℕ)) : Type 0 where
   pub apart : has_repeat bytes_eq ids ≡ false
   pub few : length ids ≤ MAX_CONTRACTS
 
--- the record is of one of so many accounts from one on
+-- the record is of one of `count` accounts from number `first` on
 abbrev pub is_of : ℕ → ℕ → NumberedPosition → Bool
 is_of first count p = nat_le first p.account && nat_lt (p.account - first) count
 
--- what so many accounts from one on hold, as it is kept
+-- the stored nets of `count` accounts from number `first` on
 unfoldable pub slice_nets : List (List ℕ) → List PositionRecord → ℕ → ℕ → List (List Holding)
 slice_nets ids positions first count =
     map (kept_holdings (length ids)) (map (entries_of ids positions) (take count (drop first (accounts_of positions))))
 
--- the nets of each account of the positions, as they are kept, where every contract is one that there is
+-- the stored nets of each account of the positions, if all contracts are known
 pub record AreNets (ids : List (List ℕ)) (positions : List PositionRecord) (nets : List (List Holding)) : Type 0 where
   pub contracts : List Contract
   pub ids_are : ids_of contracts ≡ ids
   pub all_known : list_any (is_foreign ids) positions ≡ false
   pub nets_are : nets ≡ slice_nets ids positions 0 (length (accounts_of positions))
 
--- the faults of the records of unknown contracts, and the nets of each account by the other records, as they are kept
+-- the faults of the records of unknown contracts, and the stored nets of each account from the other records
 pub record AreGathered (ids : List (List ℕ)) (positions : List PositionRecord) (unknown : List BindFault)
     (nets : List (List Holding)) : Type 0 where
   pub contracts : List Contract

@@ -1,4 +1,4 @@
--- Records of which the worked faults are made.
+-- Records for the test vectors of faults.
 use Rattle.std.specs.Prelude.{ℕ, List, [], ◌∷◌, codes, ℤ, pos}
 use Rattle.std.specs.List.{repeat}
 use Rattle.span_tables.specs.near.Samples.{contract}
@@ -21,6 +21,6 @@ position_of account contract quantity = record { account = account; contract = c
 abbrev pub order_of : List ℕ → List ℕ → List ℕ → ℤ → OrderRecord
 order_of order account contract quantity = record { order = order; account = account; contract = contract; quantity = quantity }
 
--- an account that holds one contract, the one of a number
+-- an account with a holding in one contract, given by its number
 abbrev pub portfolio_of : List ℕ → ℕ → ℤ → AccountHoldings
 portfolio_of account contract net = record { account = account; holdings = record { contract = contract; net = net } ∷ [] }

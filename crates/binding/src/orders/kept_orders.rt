@@ -1,4 +1,4 @@
-//! Orders as they are kept, and what their accounts hold with them.
+//! Stored orders, and the holdings of their accounts with them.
 ghost use Rattle.std.specs.Option.{option_or};
 ghost use Rattle.std.specs.Prelude.{◌≡◌, ℕ, All, List, None, Some, bytes_eq, drop, if◌then◌else◌, length, map, take, IfOk, OnOk};
 ghost use Rattle.indexmap.specs.IndexMap.{get};
@@ -19,13 +19,13 @@ use std::alloc::{AllocError, Global};
 /// The account of an order.
 #[derive(Drop)]
 pub(crate) enum OrderAccount {
-    /// It has a portfolio, at this place.
+    /// An account with a portfolio, at this index.
     Known(usize),
-    /// It holds nothing without the order.
+    /// An account without holdings, apart from the order.
     New(Name),
 }
 
-/// An order as it is kept: its account, and what it adds to the nets of contracts.
+/// A stored order: its name, its account, and the entries that it adds to nets.
 #[derive(Drop)]
 pub(crate) struct KeptOrder {
     pub(crate) name: Name,
@@ -33,7 +33,7 @@ pub(crate) struct KeptOrder {
     pub(crate) entries: Ledger,
 }
 
-// Gives an account a place, unless it has one.
+// Gives an account an index, unless it has one.
 fn place_first(
     places: &mut IndexMap<Name, usize>,
     account: &Name,
@@ -49,7 +49,7 @@ fn place_first(
     Ok(())
 }
 
-// The place of each account among portfolios: the first, where it has more.
+// The index of each account among portfolios, the first one if it has several portfolios.
 fn places_of(alloc: Global, portfolios: &[Portfolio]) -> Result<IndexMap<Name, usize>, AllocError>
     ensures { IfOk result (λ places. (name : List ℕ) → get bytes_eq places name ≡ place_among portfolios.now name) }
 {
@@ -60,7 +60,7 @@ fn places_of(alloc: Global, portfolios: &[Portfolio]) -> Result<IndexMap<Name, u
     Ok(places)
 }
 
-// The account of an order, by the places of accounts.
+// The account of an order, from the indexes of accounts.
 fn order_account(places: &IndexMap<Name, usize>, account: &Name) -> OrderAccount
     ensures { result ≡ account_at (get bytes_eq places.now account.now) account.now }
 {
@@ -70,7 +70,7 @@ fn order_account(places: &IndexMap<Name, usize>, account: &Name) -> OrderAccount
     }
 }
 
-/// The orders of these names and accounts, with their entries.
+/// Returns the orders of these names and accounts, with their entries.
 pub(crate) fn kept_orders(
     alloc: Global,
     portfolios: &[Portfolio],
@@ -95,7 +95,7 @@ pub(crate) fn kept_orders(
     Ok(orders)
 }
 
-/// What the account of an order holds without it.
+/// Returns the holdings of an order's account without the order.
 pub(crate) fn held_before<'a>(portfolios: &'a [Portfolio], account: &OrderAccount) -> &'a [Holding]
     requires { HasPlace portfolios.now account.now }
     ensures value { result.now ≡ (portfolio_before portfolios.now account.now).holdings }
@@ -107,7 +107,7 @@ pub(crate) fn held_before<'a>(portfolios: &'a [Portfolio], account: &OrderAccoun
     }
 }
 
-// What the account of an order holds with it, of so many contracts, whatever the sizes of its nets.
+// The holdings of an order's account with the order, in the given number of contracts, with nets of any size.
 fn nets_after(
     alloc: Global,
     sums: &mut Sums,
@@ -124,7 +124,7 @@ fn nets_after(
     account_nets(alloc, sums, contracts, &ledger)
 }
 
-/// What the account of each order holds with it that is over a limit, of so many contracts.
+/// Returns, for each order, the part of its account's holdings with the order that is over a limit.
 pub(crate) fn order_excesses(
     alloc: Global,
     sums: &mut Sums,
@@ -156,7 +156,7 @@ fn account_of<'a>(portfolios: &'a [Portfolio], account: &'a OrderAccount) -> &'a
     }
 }
 
-/// The portfolio of the account of an order with it, of so many contracts.
+/// Returns the portfolio of an order's account with the order, in the given number of contracts.
 pub(crate) fn portfolio_after(
     alloc: Global,
     sums: &mut Sums,
@@ -172,7 +172,7 @@ pub(crate) fn portfolio_after(
     Ok(Portfolio::new(account, nets.into_vec()))
 }
 
-/// The portfolio of the account of each order with it, of so many contracts.
+/// Returns the portfolio of each order's account with the order, in the given number of contracts.
 pub(crate) fn portfolios_after(
     alloc: Global,
     contracts: usize,
@@ -190,7 +190,7 @@ pub(crate) fn portfolios_after(
     Ok(all)
 }
 
-/// So many orders from one on, or as many as there are.
+/// Returns `count` orders from number `first` on, or fewer at the end of the list.
 pub(crate) fn some_of(orders: &[KeptOrder], first: usize, count: usize) -> &[KeptOrder]
     ensures { result.now ≡ take count (drop first orders.now) }
 {
