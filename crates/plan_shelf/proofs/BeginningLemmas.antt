@@ -1,8 +1,8 @@
--- Beginnings of one list.
+-- Prefixes of one list.
 use Rattle.std.proofs.Common.{◌≡◌, ◌≤◌, List, [], ◌∷◌, length, refl, arith}
 use mathlib.Core.List.{IsPrefix}
 
--- of two beginnings of one list the shorter begins the longer
+-- the shorter of two prefixes of a list is a prefix of the longer one
 pub IsPrefix-shorter : {A : Type 0} (xs ys zs : List A) → IsPrefix xs zs → IsPrefix ys zs → length xs ≤ length ys → IsPrefix xs ys
 IsPrefix-shorter [] ys zs of_xs of_ys shorter = (ys, refl)
 IsPrefix-shorter (x ∷ xs) [] zs of_xs of_ys shorter = absurd (omega arith)
@@ -12,7 +12,7 @@ IsPrefix-shorter (x ∷ xs) (y ∷ ys) (z ∷ zs) of_xs of_ys shorter =
     let rest = IsPrefix-shorter xs ys zs (of_xs.0, cc (of_xs.1)) (of_ys.0, cc (of_ys.1)) (omega arith) in
     (rest.0, cc (heads, rest.1))
 
--- a beginning that is no shorter than the whole is the whole
+-- a prefix that is at least as long as the list is the whole list
 pub IsPrefix-whole : {A : Type 0} (xs ys : List A) → IsPrefix xs ys → length ys ≤ length xs → xs ≡ ys
 IsPrefix-whole [] [] begins longer = refl
 IsPrefix-whole [] (y ∷ ys) begins longer = absurd (omega arith)

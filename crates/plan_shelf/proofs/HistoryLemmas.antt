@@ -1,4 +1,4 @@
--- The step that adds a set keeps the rule of the history.
+-- The step that adds a parameter set keeps the rule of the history.
 use Rattle.std.proofs.Common.{◌≡◌, ℕ, ◌+◌, ◌<◌, ◌==◌, Bool, true, false, List, [], ◌∷◌, ◌++◌, length, None}
 use Rattle.std.proofs.Common.{refl, ap, sym, subst, arith, inl, length-append}
 use Rattle.std.proofs.lemmas.List.{append-nil}
@@ -18,20 +18,20 @@ shown sets = []
 abbrev pub moved : List SetView → List SetView → ℕ → Type 0
 moved before after answer = Unit {0}
 
--- the exchange writes the next number where it finds the old one
+-- the exchange writes the next number if it finds the old one
 abbrev pub exchanged : ℕ → ℕ → ℕ
 exchanged count n = either (n == count) (count + 1) n
 
--- what a publisher that saw these sets has: no pen, and nothing to trade
+-- the view of a publisher that has seen these sets: no pen, and nothing to trade
 abbrev pub at_hand : List SetView → View SetView ℕ
 at_hand seen = (seen, (no_nib, None))
 
--- the exchange that adds a set after a number of sets can be done at these words and sets
+-- the exchange that adds a set after `count` sets is possible for these words and sets
 abbrev pub AddGoes : List SetView → SetView → ℕ → List Cell → List SetView → Type 0
 AddGoes seen set count =
     Goes CountsPublications shown moved 0 (at_hand seen) (exchanged count) (AddsPublication (step 0 count (count + 1) set) (at_hand seen))
 
--- at a history of these sets: the set is added where all of them had been seen, and else nothing is
+-- the set is added if all sets of the history had been seen, and otherwise nothing is added
 pub adds-goes : (sets seen : List SetView) (set : SetView) (count : ℕ) → length seen ≡ count → IsPrefix seen sets
     → (is_all : Bool) → (length sets == count) ≡ is_all
     → AddGoes seen set count ((length sets, true) ∷ (0, true) ∷ []) sets
@@ -60,7 +60,7 @@ adds-goes sets seen set count len begins false is =
       rw is (ap length all),
     )
 
--- the exchange that adds a set can be done whatever the history is
+-- the exchange that adds a set is possible for any history
 pub adds-moves : (seen : List SetView) (set : SetView) (count : ℕ) → length seen ≡ count
     → Moves CountsPublications shown moved 0 (at_hand seen) (exchanged count)
     (AddsPublication (step 0 count (count + 1) set) (at_hand seen))

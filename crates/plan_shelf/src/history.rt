@@ -1,5 +1,5 @@
-//! The history of a shelf: its publications, in order. A history only grows, and exists in the proofs alone; threads share
-//! one word of it, the number of publications.
+//! The history of a shelf: its publications, in order. A history only grows, and exists only in the proofs. Threads
+//! share one word of it, the number of publications.
 ghost use Rattle.plan_shelf.specs.near.History.{IsLonger, counter_of};
 ghost use Rattle.std.specs.Prelude.{◌≡◌, ◌<◌, ◌-◌, ◌^◌, ◌⊎◌, ◌↔◌, [], ◌∷◌, ◌++◌};
 ghost use Rattle.std.specs.Prelude.{IsTrue, MatchBool, length};
@@ -20,7 +20,7 @@ impl ShelfName for Brand {
     ghost book = { record { number = 0; log_name = 0; cells_name = 0 } };
 }
 
-// The rule of a history: the word is the number of its publications.
+// The rule of a history: its word is the number of publications.
 struct Counted;
 
 impl Rule<CompiledSet, u64> for Counted {
@@ -41,7 +41,7 @@ impl Rule<CompiledSet, u64> for Counted {
     ghost moves = { λ ask before after answer. Unit {0} };
 }
 
-// Who adds a set trades nothing for it.
+// Adding a set trades nothing.
 struct Nothing;
 
 impl Gain<CompiledSet, u64> for Nothing {
@@ -67,7 +67,7 @@ impl Plain<CompiledSet, CompiledSet, u64> for Add {
     ghost state = { λ set. None };
 }
 
-/// The history of a shelf that is to be made: a history without publications that no shelf has yet. Contracts see its book.
+/// The history of a future shelf. It has no publications and belongs to no shelf yet. Contracts see its book.
 #[derive(Drop)]
 pub struct History {
     count: Word<CompiledSet, u64, Counted>,
@@ -87,7 +87,7 @@ impl Model for History {
 }
 
 impl History {
-    /// A new history, with a book of its own.
+    /// Returns a new history, with its own book.
     pub fn new() -> History {
         let (seen, mut first, _second) = Seen::open(Start::alone(), 0, 0);
         History {
@@ -96,7 +96,7 @@ impl History {
         }
     }
 
-    /// The history's counter and its empty beginning, as those of a shelf of this name.
+    /// Converts the history into its counter and its empty beginning, for a shelf of this name.
     pub(crate) fn for_shelf<S: ShelfName>(self) -> (Counter<S>, Beginning<S>)
         requires { self ≡ S.book }
         ensures { result.1 ≡ [] }
@@ -123,7 +123,7 @@ pub(crate) struct Counter<S: ShelfName> {
     ghost of_shelf: { count ≡ counter_of S.book },
 }
 
-/// The publications of a shelf up to one of them. Contracts see their sets, in order.
+/// The publications of a shelf up to one of them. Contracts see their parameter sets, in order.
 #[derive(Drop)]
 pub(crate) struct Beginning<S: ShelfName> {
     count: u64,
@@ -143,21 +143,21 @@ impl<S: ShelfName> Model for Beginning<S> {
 }
 
 impl<S: ShelfName> Beginning<S> {
-    /// How many publications the beginning has.
+    /// Returns the number of publications of the beginning.
     pub(crate) fn len(&self) -> u64
         ensures { result ≡ length self.now }
     {
         self.count
     }
 
-    /// Whether the last publication has the last number there is.
+    /// Returns whether the last publication has the largest possible number.
     pub(crate) fn is_full(&self) -> bool
         ensures { IsTrue result ↔ (length self.now ≡ 2 ^ 64 - 1) }
     {
         self.count == u64::MAX
     }
 
-    /// A copy of the beginning.
+    /// Returns a copy of the beginning.
     pub(crate) fn copied(&self) -> Beginning<S>
         ensures { result ≡ self.now }
     {
@@ -168,7 +168,7 @@ impl<S: ShelfName> Beginning<S> {
         }
     }
 
-    /// The longer of two beginnings. Both begin the longer one.
+    /// Returns the longer of two beginnings. Both are prefixes of it.
     pub(crate) fn longer(&self, other: &Beginning<S>) -> Beginning<S>
         ensures one { (result ≡ self.now) ⊎ (result ≡ other.now) }
         ensures this { IsPrefix self.now result }
@@ -183,8 +183,8 @@ impl<S: ShelfName> Beginning<S> {
         }
     }
 
-    /// Adds a set to the history where the history is no longer than this beginning, and says whether the set was added.
-    /// Where it was not, the beginning becomes the history.
+    /// Adds a set to the history if the history is no longer than this beginning, and returns whether it was added. If
+    /// not, the beginning becomes the whole history.
     pub(crate) fn add(&mut self, counter: &Counter<S>, set: &CompiledSet) -> bool
         requires { length self.old < 2 ^ 64 - 1 }
         ensures { MatchBool result (self.new ≡ self.old ++ set.now ∷ []) (IsLonger self.old self.new) }

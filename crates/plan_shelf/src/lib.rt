@@ -1,4 +1,4 @@
-//! The shelf of the current set: one publisher, and readers that never go back.
+//! The shelf of the current parameter set: one publisher, and readers that never go back to an earlier set.
 #![tactic(auto)]
 
 pub mod faults;

@@ -1,4 +1,4 @@
-//! Publishing a set.
+//! Publishing a parameter set.
 ghost use Rattle.plan_shelf.specs.declared.faults.ShelfFault.TheVariants as fault;
 ghost use Rattle.std.specs.Arc.{arc_value};
 ghost use Rattle.std.specs.Prelude.{◌≡◌, ◌-◌, ◌^◌, ◌⊎◌, ◌↔◌, [], ◌∷◌, ◌++◌};
@@ -13,7 +13,8 @@ use std::alloc::{AllocError, Global};
 use std::marker::Model;
 use std::sync::{Arc, OnceLock, Wait};
 
-/// What a publication tells, for readers to learn. Contracts see the sets that were published up to it, in order.
+/// The result of a publication, from which readers can learn of it. Contracts see the sets that were published up to
+/// it, in order.
 #[derive(Drop)]
 pub struct Told<S: ShelfName> {
     pub(crate) beginning: Beginning<S>,
@@ -29,7 +30,7 @@ impl<S: ShelfName> Model for Told<S> {
 }
 
 impl<S: ShelfName> Told<S> {
-    /// The publication's number. Publications are numbered from 1.
+    /// Returns the publication's number. Publications are numbered from 1.
     pub fn number(&self) -> u64
         ensures { result ≡ length self.now }
     {
@@ -39,7 +40,7 @@ impl<S: ShelfName> Told<S> {
 
 /// The publisher of a shelf. Contracts see the sets that were published, in order.
 ///
-/// Readers find nothing any more once the publisher is dropped.
+/// After the publisher is dropped, readers find no set.
 #[derive(Drop)]
 pub struct Publisher<S: ShelfName, R: Wait + Drop>
 where
@@ -67,10 +68,10 @@ impl<S: ShelfName, R: Wait + Drop> Publisher<S, R>
 where
     Window<S>: Absorb<Publication<S>, State = ()>,
 {
-    /// Publishes a set, and tells its publication.
+    /// Publishes a set, and returns its publication.
     ///
-    /// A publication past number 2^64 - 1 is refused. The set then comes back, and nothing was published; so it is for want of
-    /// memory.
+    /// It fails with `Last` after publication number 2^64 - 1, and with `OutOfMemory` if memory runs out. Then nothing
+    /// is published, and the error contains the set.
     pub fn publish(&mut self, set: Arc<CompiledSet>) -> Result<Told<S>, NotPublished>
         ensures ok { IfOk result (λ told. (self.new ≡ self.old ++ arc_value set ∷ []) × (told ≡ self.new)) }
         ensures err { IfErr result (λ refused. (self.new ≡ self.old) × (refused.set ≡ set)) }
@@ -87,7 +88,7 @@ where
         };
         let mut beginning = self.beginning.copied();
         if !beginning.add(&self.counter, &set) {
-            // The set is always added: nobody else has the counter.
+            // The set is always added, because nothing else has the counter.
             let cause = ShelfFault::OutOfMemory;
             return Err(NotPublished { cause, set });
         }
@@ -103,7 +104,7 @@ where
         Ok(told)
     }
 
-    // The slot of a publication, which both windows are to be told of. A publication takes no other memory.
+    // The slot of a publication, appended for both windows. A publication allocates no other memory.
     fn new_slot(&mut self) -> Result<Slot<S>, AllocError>
         ensures { self.new ≡ self.old }
     {

@@ -1,4 +1,4 @@
-//! Reading the current set.
+//! Reading the current parameter set.
 ghost use Rattle.plan_shelf.specs.Publications.{IsLast};
 ghost use Rattle.plan_shelf.specs.near.Looks.{Finds};
 ghost use Rattle.std.specs.Arc.{arc_value};
@@ -15,7 +15,7 @@ use std::marker::Model;
 use std::sync::{Arc, Wait};
 use std::thread;
 
-/// A reader of a shelf. Contracts see the sets of which it knows that they were published, in order: they begin those of
+/// A reader of a shelf. Contracts see the published sets that it knows of, in order. They are a prefix of the sets of
 /// the shelf.
 #[derive(Drop)]
 pub struct Reader<S: ShelfName> {
@@ -32,25 +32,25 @@ impl<S: ShelfName> Model for Reader<S> {
     ghost view = { λ r. r.beginning };
 }
 
-/// What one look finds.
+/// The result of one look.
 pub(crate) enum Look {
     /// Nothing is published, or the publisher was dropped.
     Nothing,
-    /// A publication before one that the reader knows of.
+    /// The publication is older than one that the reader knows of.
     Older,
-    /// The last publication, its number and its set.
+    /// The last publication: its number and its set.
     Last(u64, Arc<CompiledSet>),
 }
 
 impl<S: ShelfName> Reader<S> {
-    /// A reader that knows of these publications.
+    /// Returns a reader that knows of these publications.
     pub(crate) fn new(windows: ReadHandle<Window<S>>, beginning: Beginning<S>) -> Reader<S>
         ensures { result ≡ beginning }
     {
         Reader { windows, beginning }
     }
 
-    /// Learns what a publication told: from now on the reader finds that publication or a later one.
+    /// Learns of a publication. From now on the reader finds that publication or a later one.
     pub fn learn(&mut self, told: Told<S>)
         ensures told { IsPrefix told self.new }
         ensures old { IsPrefix self.old self.new }
@@ -58,9 +58,10 @@ impl<S: ShelfName> Reader<S> {
         self.beginning = self.beginning.longer(&told.beginning);
     }
 
-    /// The current set, with the number of its publication. No set before one that the reader found or learned of is given.
+    /// Returns the current set and the number of its publication. It is never an earlier set than one that the reader
+    /// found or learned of.
     ///
-    /// `None` where nothing is published, and where the publisher was dropped.
+    /// Returns `None` if nothing is published, or if the publisher was dropped. `Err` is out of memory.
     pub fn current<R: Wait>(
         &mut self,
         rt: &R,

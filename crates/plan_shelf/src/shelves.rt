@@ -12,15 +12,16 @@ use left_right::WriteHandle;
 use std::alloc::{AllocError, Global};
 use std::sync::Wait;
 
-/// The most readers that a shelf can have.
+/// The largest number of readers of a shelf.
 pub const MAX_READERS: usize = 16;
 
-/// A shelf on which nothing is published: its publisher, and so many readers.
+/// Returns an empty shelf, on which nothing is published: its publisher, and the given number of readers.
 ///
-/// A number of readers that is 0 or over 16 is refused before anything is made.
+/// If the number of readers is 0 or over 16, it fails with `Readers` before anything is made. Otherwise it fails only
+/// if memory runs out.
 ///
-/// The history is a new one, and the type `S` names its book. A function whose signature has no such type calls `shelf`
-/// at `Brand`, by a function over all `S` that takes `History::new()`.
+/// `history` must be a new history, and the type `S` must name its book. A function without such a type in its
+/// signature calls a function over all `S` at `Brand`, with `History::new()`. That function calls `shelf`.
 pub fn shelf<S: ShelfName, R: Wait + Drop>(
     rt: R,
     alloc: Global,
@@ -38,7 +39,7 @@ pub fn shelf<S: ShelfName, R: Wait + Drop>(
     empty_shelf(rt, alloc, history, readers).map_err(|_| ShelfFault::OutOfMemory)
 }
 
-// A shelf of a number of readers that a shelf can have.
+// An empty shelf with a valid number of readers.
 fn empty_shelf<S: ShelfName, R: Wait + Drop>(
     rt: R,
     alloc: Global,

@@ -1,4 +1,4 @@
-//! What goes from the publisher to the readers of a shelf.
+//! The data that goes from the publisher to the readers of a shelf.
 use crate::history::{Beginning, ShelfName};
 use left_right::Absorb;
 use plan_compiler::set::CompiledSet;
@@ -6,7 +6,7 @@ use std::alloc::AllocError;
 use std::marker::Model;
 use std::sync::{Arc, OnceLock};
 
-/// A published set, with the publications up to it. Contracts see the sets of these publications.
+/// A published parameter set, with the publications up to it. Contracts see the sets of these publications.
 #[derive(Drop)]
 pub struct Published<S: ShelfName> {
     pub(crate) set: Arc<CompiledSet>,
@@ -26,10 +26,11 @@ impl<S: ShelfName> Model for Published<S> {
     ghost invariant = { λ p. IsLast p.beginning (arc_value p.set) };
 }
 
-/// A slot for a published set. A slot is made, and told to both windows, before a set is published in it.
+/// A slot for a published set. A slot is made, and passed to both windows, before a set is published in it.
 pub type Slot<S> = Arc<OnceLock<Published<S>>>;
 
-/// What readers look at: the slot of the last publication. There are two windows, and readers look at one of them.
+/// The value that readers look at: the slot of the last publication. There are two windows, and readers look at one of
+/// them.
 #[derive(Drop)]
 pub struct Window<S: ShelfName> {
     pub(crate) last: Option<Slot<S>>,
@@ -41,7 +42,8 @@ pub struct Publication<S: ShelfName> {
     pub(crate) slot: Slot<S>,
 }
 
-// Telling a window of a publication always succeeds. The window keeps its old slot only where 2^64 - 1 others hold the new one.
+// A publication never fails in a window. The window keeps its old slot only if there are already 2^64 - 1 other
+// references to the new slot.
 impl<S: ShelfName> Absorb<Publication<S>> for Window<S> {
     type State = ();
 

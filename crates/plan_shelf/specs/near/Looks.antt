@@ -1,4 +1,4 @@
--- What one look of a reader finds.
+-- The result of one look of a reader.
 use Rattle.std.specs.Prelude.{◌≡◌, List, length}
 use Rattle.std.specs.Arc.{arc_value}
 use Rattle.plan_compiler.specs.Compiled.{SetView}
@@ -6,7 +6,7 @@ use Rattle.plan_shelf.specs.Publications.{IsLast}
 use Rattle.plan_shelf.specs.declared.readers.Look.{Look}
 use Rattle.plan_shelf.specs.declared.readers.Look.TheVariants.{Nothing, Older, Last}
 
--- of the publications that the reader knew before and knows now, and of what it found
+-- the result of a look agrees with the publications that the reader knew before it and knows after it
 abbrev pub Finds : List SetView → List SetView → Look → Type 0
 Finds old new Nothing = new ≡ old
 Finds old new Older = new ≡ old

@@ -2,7 +2,7 @@ use Rattle.std.proofs.Common.{◌≤◌, ap, arith, length}
 use Rattle.plan_shelf.proofs.BeginningLemmas.{IsPrefix-shorter}
 use Rattle.plan_shelf.proofs.history.Beginning.longer.Goals as goal
 
--- both beginnings begin what was seen with both
+-- both beginnings are prefixes of what was seen with both
 pub returns-then-self-other-clause-this : goal.returns-then-self-other-clause-this
 returns-then-self-other-clause-this g c =
     let own_begins = rw (ap (λ s. s.log) c.again-both.ensures) at c.learn.ensures.2 in
