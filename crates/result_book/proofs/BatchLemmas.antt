@@ -1,4 +1,4 @@
--- Rows that are kept under their accounts.
+-- Rows stored under their accounts.
 use Rattle.std.proofs.Common.{◌≡◌, ℕ, Bool, true, false, cond, List, [], ◌∷◌, ◌++◌, map, Option, None, Some}
 use Rattle.std.proofs.Common.{bytes_eq, refl, sym, ap, subst, ◌∙◌}
 use Rattle.std.proofs.lemmas.Option.{none-some}
@@ -17,7 +17,7 @@ chosen f true x y = refl
 chosen f false x y = refl
 
 module _ {Kept : Type 0} (row_of : Kept → RowView) where
-  -- what is found by the account is the row of the account
+  -- the row found by an account is the row of that account
   pub row_for-kept : (es : List (List ℕ × Kept)) → AreUnderAccounts row_of es → (account : List ℕ)
       → option_map row_of (lookup (bytes_eq account) es) ≡ row_for (kept_rows row_of es) account
   row_for-kept [] under account = refl
@@ -30,18 +30,18 @@ module _ {Kept : Type 0} (row_of : Kept → RowView) where
   none None e = refl
   none (Some x) e = absurd (none-some (row_of x) (sym e))
 
-  -- an account without a row is no key
+  -- an account without a row is not a key
   absent-kept : (es : List (List ℕ × Kept)) → AreUnderAccounts row_of es → (account : List ℕ)
       → row_for (kept_rows row_of es) account ≡ None → lookup (bytes_eq account) es ≡ None
   absent-kept es under account no_row = none (lookup (bytes_eq account) es) (row_for-kept es under account ∙ no_row)
 
-  -- the rows of entries and one entry more are the rows of the entries, and last that entry's row
+  -- an appended entry appends its row to the rows
   pub kept-push : (es : List (List ℕ × Kept)) (e : List ℕ × Kept)
       → kept_rows row_of (es ++ e ∷ []) ≡ kept_rows row_of es ++ row_of e.1 ∷ []
   kept-push [] e = refl
   kept-push (x ∷ es) e = ap (λ rows. row_of x.1 ∷ rows) (kept-push es e)
 
-  -- one row more that is kept under its own account leaves all rows under their accounts
+  -- after one more entry whose key is the account of its row, all rows are under their accounts
   pub under-push : (es : List (List ℕ × Kept)) (e : List ℕ × Kept) → AreUnderAccounts row_of es → e.0 ≡ account_of_row (row_of e.1)
       → AreUnderAccounts row_of (es ++ e ∷ [])
   under-push [] e under own = (own, tt)
@@ -52,12 +52,12 @@ module _ {Kept : Type 0} (row_of : Kept → RowView) where
   keys-kept (e ∷ es) under =
       ap (λ key. key ∷ keys_of es) under.0 ∙ ap (λ keys. account_of_row (row_of e.1) ∷ keys) (keys-kept es under.1)
 
-  -- where no two keys are equal, no account has two rows
+  -- if no two keys are equal, no account has two rows
   pub once-kept : (es : List (List ℕ × Kept)) → AreUnderAccounts row_of es → IsDistinct bytes_eq (keys_of es)
       → HasNoAccountTwice (kept_rows row_of es)
   once-kept es under distinct = subst (IsDistinct bytes_eq) (keys-kept es under) distinct
 
-  -- a row of an account that had none goes last
+  -- a row of an account without a row is appended
   pub inserted_last : {S : Type 0} (m : IndexMap (List ℕ) Kept S) (account : List ℕ) (v : Kept)
       → AreUnderAccounts row_of m.entries → row_for (kept_rows row_of m.entries) account ≡ None
       → insert_entry bytes_eq m.entries account v ≡ m.entries ++ (account, v) ∷ []

@@ -1,4 +1,4 @@
--- What rows tell of an account, and that a book without rows is one.
+-- Lemmas about the accounts of rows, and about a book without rows.
 use Rattle.std.proofs.Common.{◌≡◌, ◌↔◌, ℕ, Bool, true, false, ◌||◌, cond, List, [], ◌∷◌, map, Contains}
 use Rattle.std.proofs.Common.{◌<◌, ◌^◌, Option, Some, is_some, bytes_eq, refl, sym, ap, ◌∙◌}
 use Rattle.std.proofs.lemmas.Map.Views.{list_any-from_Contains, Contains-from_any}
@@ -27,7 +27,7 @@ row_for-list_any (row ∷ rows) account =
     chosen (bytes_eq account (account_of_row row)) row (row_for rows account)
     ∙ ap (λ any. bytes_eq account (account_of_row row) || any) (row_for-list_any rows account)
 
--- some row is found exactly where the account is one of the rows' accounts
+-- a row is found for an account exactly if it is one of the accounts of the rows
 pub account_there : (rows : List RowView) (account : List ℕ)
     → (is_some (row_for rows account) ≡ true) ↔ Contains (map account_of_row rows) account
 account_there rows account =

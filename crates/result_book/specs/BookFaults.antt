@@ -1,4 +1,4 @@
--- The faults of a book.
+-- The faults of a result store (book).
 use Rattle.std.specs.Prelude.{ℕ, Bool, List, codes, false, true}
 use Rattle.result_book.specs.declared.books.BookFault.{BookFault}
 use Rattle.result_book.specs.declared.books.BookFault.TheVariants as fault
@@ -10,7 +10,7 @@ is_memory fault.AlreadyThere = false
 is_memory fault.OutOfMemory = true
 is_memory fault.NoMoreBatches = false
 
--- what is said of a fault: its number and name
+-- the text of a fault: its number and name
 abbrev pub book_text : BookFault → List ℕ
 book_text fault.NoSuchBatch = codes "K1 NoSuchBatch"
 book_text fault.AlreadyThere = codes "K2 AlreadyThere"

@@ -10,7 +10,7 @@ use std::marker::Model;
 use std::sync::Arc;
 use step_scheduler::rows::Row;
 
-/// The rows of a batch, in the order in which they were put, and found by their accounts.
+/// The rows of a batch, in the order in which they were added. A row can be found by its account.
 #[derive(Drop)]
 pub(crate) struct BatchRows {
     by_account: IndexMap<Name, Arc<Row>>,
@@ -30,7 +30,7 @@ impl Model for BatchRows {
 }
 
 impl BatchRows {
-    /// A batch without rows.
+    /// Returns a batch without rows.
     pub(crate) fn new(alloc: Global) -> BatchRows
         ensures { result ≡ [] }
     {
@@ -39,7 +39,8 @@ impl BatchRows {
         }
     }
 
-    /// Puts a row of an account that has none last. Where memory is wanting the row comes back, and nothing was put.
+    /// Appends a row. The batch must have no row of its account. If memory runs out, the row is returned and nothing
+    /// was added.
     pub(crate) fn put(&mut self, row: Arc<Row>) -> Result<(), Arc<Row>>
         requires { row_for self.old (account_of_row (arc_value row)) ≡ None }
         ensures put { OnOk result (self.new ≡ self.old ++ arc_value row ∷ []) }
@@ -53,7 +54,7 @@ impl BatchRows {
         }
     }
 
-    /// The row of an account.
+    /// Returns the row of an account, if there is one.
     pub(crate) fn get(&self, account: &Name) -> Option<&Row>
         ensures { option_copied result ≡ row_for self.now account.now }
     {
@@ -63,7 +64,7 @@ impl BatchRows {
         }
     }
 
-    /// A further hold on each row, in the order in which they were put.
+    /// Returns a shared reference to each row, in the order in which they were added.
     pub(crate) fn rows(&self, alloc: Global) -> Result<Vec<Arc<Row>>, AllocError>
         ensures { IfOk result (λ rows. map arc_value rows.items ≡ self.now) }
     {

@@ -1,4 +1,4 @@
-//! The book of results.
+//! The result store, called book.
 ghost use Rattle.std.specs.Prelude.{◌≡◌, ◌≢◌, ◌↔◌, ◌+◌, ◌-◌, ◌^◌, ◌++◌, ◌∷◌, [], ℕ, map, None};
 ghost use Rattle.std.specs.Prelude.{Err, IfErr, IfOk, OnOk, option_copied};
 ghost use Rattle.std.specs.Option.{unwrap_or};
@@ -16,16 +16,16 @@ use std::marker::Model;
 use std::sync::Arc;
 use step_scheduler::rows::Row;
 
-/// Why a book does not do what was asked.
+/// The reason why a call of a book fails.
 #[derive(Clone, Copy, Debug, Drop, PartialEq, Eq)]
 pub enum BookFault {
     /// No batch of this number was opened.
     NoSuchBatch,
-    /// The batch has a row of this account.
+    /// The batch already has a row of this account.
     AlreadyThere,
     /// Out of memory.
     OutOfMemory,
-    /// Each number was given to a batch.
+    /// All batch numbers are used.
     NoMoreBatches,
 }
 
@@ -47,19 +47,20 @@ impl Display for BookFault {
 
 impl Error for BookFault {}
 
-/// A row that was not put, and why.
+/// A row that was not added, and the reason.
 #[derive(Drop)]
 pub struct PutRefused {
-    /// Why it was not put.
+    /// The reason.
     pub fault: BookFault,
     /// The row.
     pub row: Arc<Row>,
 }
 
-/// The rows of all batches: batches are numbered 1, 2 and on, and the rows of each stand in the order in which they were put.
+/// The rows of all batches. Batches are numbered from 1, and each has its rows in the order in which they were added.
 ///
-/// Contracts see how many batches were opened, and the rows of each. No account has two rows in a batch, and no row stands
-/// under a number that was not opened. What is stored grows with the rows alone: a batch without rows takes no memory.
+/// Contracts see the number of opened batches, and the rows of each. No account has two rows in a batch, and there are
+/// no rows of a batch that was not opened. The memory used grows only with the rows: a batch without rows takes no
+/// memory.
 #[derive(Drop)]
 pub struct ResultBook {
     alloc: Global,
@@ -78,7 +79,7 @@ impl Model for ResultBook {
 }
 
 impl ResultBook {
-    /// A book of which no batch was opened. It takes no memory.
+    /// Returns a book without opened batches. It takes no memory.
     pub fn new(alloc: Global) -> ResultBook
         ensures { result ≡ record { opened = 0; batches = [] } }
     {
@@ -89,9 +90,9 @@ impl ResultBook {
         }
     }
 
-    /// Opens a batch, which has no rows, and gives its number. It takes no memory.
+    /// Opens a batch without rows, and returns its number. It takes no memory.
     ///
-    /// `NoMoreBatches` where 2^64 - 1 were opened: the book then stays as it was.
+    /// Fails with `NoMoreBatches` if 2^64 - 1 batches were opened. The book is then unchanged.
     pub fn open_batch(&mut self) -> Result<u64, BookFault>
         ensures number { IfOk result (λ number. number ≡ self.old.opened + 1) }
         ensures opened { OnOk result (self.new ≡ record self.old { opened = self.old.opened + 1 }) }
@@ -106,10 +107,11 @@ impl ResultBook {
         Ok(self.opened)
     }
 
-    /// Puts a row last in a batch.
+    /// Appends a row to a batch.
     ///
-    /// The book first refuses a number of which no batch was opened, then an account of which the batch has a row, and last
-    /// answers `Memory`. In each case it stays as it was, and the row comes back.
+    /// Fails with `NoSuchBatch` if no batch of this number was opened, otherwise with `AlreadyThere` if the batch has a
+    /// row of the account, and otherwise with `OutOfMemory` if memory runs out. The book is then unchanged, and the
+    /// error contains the row.
     pub fn put(&mut self, batch: u64, row: Arc<Row>) -> Result<(), PutRefused>
         ensures accepted { OnOk result (put_fault self.old batch (account_of_row (arc_value row)) ≡ None) }
         ensures put { OnOk result (rows_of self.new batch ≡ rows_of self.old batch ++ arc_value row ∷ []) }
@@ -131,7 +133,7 @@ impl ResultBook {
         }
     }
 
-    /// The row of an account in a batch. `None` where the batch has none, or was not opened.
+    /// Returns the row of an account in a batch, or `None` if the batch has no such row or was not opened.
     pub fn get(&self, batch: u64, account: &Name) -> Option<&Row>
         ensures row { option_copied result ≡ row_for (rows_of self.now batch) account.now }
         ensures lawful { IsBook self.now }
@@ -142,7 +144,8 @@ impl ResultBook {
         }
     }
 
-    /// The rows of a batch, in the order in which they were put: none where the batch was not opened.
+    /// Returns the rows of a batch, in the order in which they were added. There are none if the batch was not opened.
+    /// `Err` is out of memory.
     pub fn rows(&self, batch: u64) -> Result<Vec<Arc<Row>>, AllocError>
         ensures rows { IfOk result (λ rows. map arc_value rows.items ≡ rows_of self.now batch) }
         ensures lawful { IsBook self.now }
@@ -153,7 +156,7 @@ impl ResultBook {
         }
     }
 
-    // Why the row of an account is not put in a batch, if out of memory is no reason.
+    // The reason why the row of an account is not added to a batch, apart from out of memory.
     fn put_fault(&self, batch: u64, account: &Name) -> Option<BookFault>
         ensures { result ≡ put_fault self.now batch account.now }
     {
@@ -167,8 +170,7 @@ impl ResultBook {
     }
 }
 
-// Puts a row last in a batch that has none of the row's account. Where memory is wanting the row comes back, and nothing was
-// put.
+// Appends a row to a batch without a row of its account. If memory runs out, the row is returned and nothing was added.
 fn put_row(
     alloc: Global,
     batches: &mut IndexMap<u64, BatchRows>,

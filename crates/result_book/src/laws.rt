@@ -1,15 +1,15 @@
-//! Laws of books: each is the contract of a function that does nothing.
+//! Lemmas about books. Each is the contract of a function with an empty body.
 ghost use Rattle.std.specs.Prelude.{◌≡◌, ◌<◌, ◌≤◌, ◌↔◌, ◌⊎◌, ℕ, List, None, Some, Contains, map};
 ghost use Rattle.result_book.specs.Books.{BookView, account_of_row, put_fault, rows_of};
 ghost use Rattle.result_book.specs.declared.books.BookFault.TheVariants as fault;
 
-/// No batch of a number was opened exactly where the number is 0 or greater than the number of opened batches.
+/// A row is rejected with `NoSuchBatch` exactly if the batch number is 0 or greater than the number of opened batches.
 pub fn numbers_from_one_on_are_opened()
     ensures { (book : BookView) (number : ℕ) (account : List ℕ) → (put_fault book number account ≡ Some fault.NoSuchBatch)
         ↔ ((number ≡ 0) ⊎ (book.opened < number)) }
 {}
 
-/// A row is already there exactly where its batch was opened and has a row of its account.
+/// A row is rejected with `AlreadyThere` exactly if its batch was opened and has a row of its account.
 #[tactic(auto, using(crate::proofs::BookLemmas::account_there))]
 pub fn an_account_is_there_once()
     ensures { (book : BookView) (number : ℕ) (account : List ℕ) → (put_fault book number account ≡ Some fault.AlreadyThere)

@@ -1,4 +1,4 @@
-//! The book that keeps the rows of all batches.
+//! The result store (book), which has the rows of all batches.
 #![tactic(auto)]
 
 mod batches;

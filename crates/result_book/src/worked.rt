@@ -1,4 +1,5 @@
-//! Books of one row, computed by the definitions: each is the contract of a function that does nothing.
+//! Test vectors for books with one row, computed by the definitions. Each is the contract of a function with an empty
+//! body.
 ghost use Rattle.std.specs.Prelude.{◌≡◌, ◌∷◌, [], ℕ, None, Some, codes};
 ghost use Rattle.plan_compiler.specs.Compiled.{SetView};
 ghost use Rattle.result_book.specs.Books.{put_fault, row_for, rows_of};

@@ -3,7 +3,7 @@ use Rattle.std.proofs.lemmas.Map.Steps.{set_value_same}
 use Rattle.std.proofs.lemmas.Result.{IfErr-weaker}
 use Rattle.result_book.proofs.books.put_row.Goals as goal
 
--- what was lent is as it was, so all batches are
+-- the borrowed rows are unchanged, and so are all batches
 pub returns-in-Some-clause-refused : goal.returns-in-Some-clause-refused
 returns-in-Some-clause-refused c =
     IfErr-weaker c.put.result _ _

@@ -5,7 +5,7 @@ use Rattle.result_book.proofs.BatchLemmas.{inserted_last, kept-push, once-kept, 
 use Rattle.result_book.specs.near.Batches.{AreUnderAccounts, kept_rows}
 use Rattle.result_book.proofs.batches.BatchRows.put.Goals as goal
 
--- the row went last, under its account
+-- the row was appended, under its account
 own : (c : goal.Joined-insert-2) → c.copied-account.result ≡ account_of_row (arc_value c.args.row)
 own c = c.copied-account.ensures ∙ c.account.ensures ∙ ap account_of_row c.deref.ensures
 
