@@ -1,4 +1,5 @@
-//! Results that are offered to a board: it takes one only of a step that it handed out and that is not finished.
+//! Results that are offered to a board. The board accepts only a result of a step that it handed out and that is not
+//! finished.
 ghost use Rattle.std.specs.Prelude.{◌≡◌, IfSome};
 ghost use Rattle.std.specs.Arc.{arc_value};
 
@@ -16,14 +17,14 @@ use step_scheduler::finished::Finished;
 use step_scheduler::jobs::Job;
 use step_scheduler::tasks::Task;
 
-// Expects that a board hands nothing out.
+// Expects that a board hands out no step.
 fn expect_none_ready(rt: &impl Abort, board: &mut Board)
     ensures { board.new.job ≡ board.old.job }
 {
     assert!(rt; board.take_ready().expect(rt, "an answer").is_none());
 }
 
-// The task of the first step, of the three that a new board of one future hands out. It hands out no fourth one.
+// The task of the first step. A new board of one future hands out exactly three steps.
 fn first_task(rt: &impl Abort, board: &mut Board) -> Task
     ensures board { board.new.job ≡ board.old.job }
     ensures task { result.job ≡ board.old.job }
@@ -39,7 +40,7 @@ fn first_task(rt: &impl Abort, board: &mut Board) -> Task
     first.expect(rt, "the first step")
 }
 
-// The result of a step, by a new board of the job that is run until it hands the step out.
+// The result of a step, from a new board of the job that runs until it hands out the step.
 fn result_of(rt: &impl Abort, alloc: Global, job: &Arc<Job>, step: usize) -> Finished
     ensures { result.job ≡ arc_value job.now }
 {
@@ -55,7 +56,7 @@ fn result_of(rt: &impl Abort, alloc: Global, job: &Arc<Job>, step: usize) -> Fin
     finished
 }
 
-// Offers a board a result that it does not take, for this reason: its history stays the same.
+// Offers a board a result that it rejects for this reason. Its history stays the same.
 fn expect_refused(
     rt: &impl Abort,
     alloc: Global,
@@ -91,7 +92,7 @@ fn results_on_other_boards(rt: HostRuntime) {
     assert!(rt; a.history().len() == 4 && b.history().len() == 3);
 }
 
-// Another job that is equal: the same set, and an account that holds the same.
+// Another job that is equal: the same parameter set, and an account with the same holdings.
 fn equal_job(rt: &impl Abort, alloc: Global, job: &Arc<Job>) -> Arc<Job>
     ensures { arc_value result ≡ arc_value job.now }
 {
@@ -102,7 +103,7 @@ fn equal_job(rt: &impl Abort, alloc: Global, job: &Arc<Job>) -> Arc<Job>
     Arc::new(alloc, job).ok().expect(rt, "a job")
 }
 
-// Offers a board a result of each step, of a new board of an equal job. None is taken.
+// Offers a board a result of each step, from new boards of an equal job. The board accepts none of them.
 fn offer_strangers(rt: &impl Abort, alloc: Global, board: &mut Board, equal: &Arc<Job>)
     requires { board.old.job ≡ arc_value equal.now }
     ensures { board.new.job ≡ board.old.job }
@@ -113,7 +114,7 @@ fn offer_strangers(rt: &impl Abort, alloc: Global, board: &mut Board, equal: &Ar
     }
 }
 
-// Runs a board to its end. Before each of its steps and at the end it is offered the results of others.
+// Runs a board to its end. Before each of its steps, and at the end, results of other boards are offered to it.
 fn run_among_strangers(rt: &impl Abort, alloc: Global, board: &mut Board, equal: &Arc<Job>)
     requires { board.old.job ≡ arc_value equal.now }
 {
@@ -131,7 +132,7 @@ fn numbers_of(board: &Board, commodity: usize) -> Option<[i128; 7]> {
     Some(board.figures(commodity)?.numbers())
 }
 
-// Between its own steps, a board takes no result of another: not of a step that waits, nor of one that is finished.
+// Between its own steps, a board accepts no result of another board, whether the step is waiting or finished.
 #[test]
 fn results_of_strangers(rt: HostRuntime) {
     let alloc = rt.alloc();
@@ -150,7 +151,7 @@ fn results_of_strangers(rt: HostRuntime) {
     assert!(rt; board.total() == Some(Money::new(3450)));
 }
 
-// On a new board the figures of a commodity miss all five of their inputs.
+// On a new board all five inputs of a commodity's figures are missing.
 #[test]
 fn inputs_of_a_new_board(rt: HostRuntime) {
     let alloc = rt.alloc();

@@ -1,7 +1,7 @@
-//! Each call that may give up, once, where there is memory: no clause says that it succeeds. What it answers was worked by
-//! hand: the account is long one future, which loses 1200 at most.
+//! Each call that may fail, once, with enough memory: no clause says that it succeeds. The expected results were
+//! computed by hand. The account is long one future, which loses at most 1200.
 //!
-//! The calls of a shelf are those of `one_reader`.
+//! The calls of a shelf are tested by `one_reader`.
 ghost use Rattle.std.specs.Prelude.{◌≡◌, length, true};
 ghost use Rattle.span_tables.specs.Holdings.{fits};
 ghost use Rattle.step_scheduler.specs.Boards.{IsComplete};
@@ -54,7 +54,7 @@ fn plan_listed(rt: &impl Abort, alloc: Global) {
     assert!(rt; text.as_slice() == b"0 Gather(0)\n1 Sums(0) 0\n".as_slice());
 }
 
-// `plan_compiler`: a set of twelve steps, and another one of them.
+// `plan_compiler`: a compiled set with twelve steps, and another one that shares them.
 fn set_compiled(rt: &impl Abort, alloc: Global) -> Arc<CompiledSet> {
     let set = compile(alloc, tables_of(alloc, PARAMS).expect(rt, "tables")).expect(rt, "a set");
     assert!(rt; set.plan().len() == 12);
@@ -63,7 +63,7 @@ fn set_compiled(rt: &impl Abort, alloc: Global) -> Arc<CompiledSet> {
     Arc::new(alloc, another).ok().expect(rt, "a shared set")
 }
 
-// Whether the value is scenario sums of which the greatest is this.
+// Whether the value is scenario sums with this greatest sum.
 fn is_sums_to(value: &Value, greatest: i64) -> bool {
     match value {
         Value::Sums(sums) => sums.iter().max() == Some(&greatest),
@@ -71,7 +71,7 @@ fn is_sums_to(value: &Value, greatest: i64) -> bool {
     }
 }
 
-// `plan_ir`: what is held, its scenario sums, and the sums of nothing.
+// `plan_ir`: the held contracts, their scenario sums, and the sums without held contracts.
 fn values_of_steps(rt: &impl Abort, alloc: Global, tables: &Tables, account: &Portfolio)
     requires { fits (length tables.now.contracts) account.now.holdings ≡ true }
 {
@@ -84,8 +84,8 @@ fn values_of_steps(rt: &impl Abort, alloc: Global, tables: &Tables, account: &Po
     assert!(rt; is_sums_to(nothing.sums(), 0));
 }
 
-// `step_scheduler` and `result_book`: a board that is run to its end by steps, and a whole one, with the rows of both, and the
-// figures of the first.
+// `step_scheduler` and `result_book`: a board that is run to its end by steps, and a whole board, with the rows of
+// both, and the figures of the first.
 fn boards_run(rt: &impl Abort, alloc: Global, job: &Arc<Job>) -> Arc<Row> {
     let mut board = board_of(alloc, job).expect(rt, "a board");
     for _ in 0..job.plan().len() {
@@ -120,7 +120,7 @@ fn whole_row(rt: &impl Abort, alloc: Global, job: &Arc<Job>) -> Arc<Row> {
     Row::from_board(alloc, board).expect(rt, "its row")
 }
 
-// `result_book`: a row that is put in a batch, and found there.
+// `result_book`: a row that is added to a batch, and found there.
 fn row_kept(rt: &impl Abort, alloc: Global, row: Arc<Row>) {
     assert!(rt; row.total().get() == 1200);
     let mut book = ResultBook::new(alloc);

@@ -1,4 +1,5 @@
-//! What hints tell: that a step's value is kept, or is that of its first input. No clause says that they tell anything.
+//! Tests of hints: that the value of a step is kept, or is the step's first input. No clause requires that a hint is
+//! given.
 ghost use Rattle.std.specs.Arc.{arc_value};
 ghost use Rattle.std.specs.Prelude.{◌≡◌, ◌≤◌, ◌++◌, ◌∷◌, [], length, map};
 ghost use Rattle.span_tables.specs.declared.limits.TheConstants.{MAX_PRICE2};
@@ -20,12 +21,13 @@ use std::alloc::Global;
 use std::process::Abort;
 use std::sync::Arc;
 
-// Expects that the value of an operation on nothing is kept.
+// Expects that the value of an operation is kept for an empty first input.
 fn expect_kept(rt: &impl Abort, nothing: &NothingHeld, op: Op, first: &Value) {
     assert!(rt; nothing.value_for(op, first).is_some());
 }
 
-// Each operation on no contracts, on no months and on sums of 0 has its value kept; one on the tiers of nothing has not.
+// The value of each operation on no contracts, on no months and on sums of 0 is kept. The value of a spread on no
+// months is not.
 #[test]
 fn values_of_nothing_held(rt: HostRuntime) {
     let set = set_of(rt.alloc(), PARAMS).expect(&rt, "a set");
@@ -51,7 +53,7 @@ fn add_input(rt: &impl Abort, alloc: Global, inputs: &mut Vec<Arc<Value>>, value
     inputs.push(value).ok().expect(rt, "an input");
 }
 
-// Whether it is told that a load of no months, and of this price risk doubled, changes nothing.
+// Whether the hint says that a load of no months, with this doubled price risk, changes nothing.
 fn is_load_of_nothing(rt: &impl Abort, alloc: Global, tables: &Tables, price2: u64) -> bool
     requires one { length tables.now.commodities ≡ 1 }
     requires price2 { price2 ≤ MAX_PRICE2 }
@@ -71,7 +73,7 @@ fn is_load_of_nothing(rt: &impl Abort, alloc: Global, tables: &Tables, price2: u
     changes_nothing(tables, Op::InterLoad(0), &lines, &rest)
 }
 
-// A load of a commodity of which nothing is held changes nothing; one with a price risk may.
+// A load of a commodity without held contracts changes nothing. A load with a price risk may change something.
 #[test]
 fn load_of_nothing(rt: HostRuntime) {
     let tables = tables_of(rt.alloc(), PARAMS).expect(&rt, "tables");
@@ -80,7 +82,7 @@ fn load_of_nothing(rt: HostRuntime) {
     assert!(rt; !is_load_of_nothing(&rt, rt.alloc(), &tables, 2400));
 }
 
-// A total with a requirement of 0 stays as it is.
+// Adding a requirement of 0 does not change a total.
 #[test]
 fn total_of_nothing(rt: HostRuntime) {
     let tables = tables_of(rt.alloc(), PARAMS).expect(&rt, "tables");

@@ -1,9 +1,12 @@
-//! Tests of the crates from the plan to the book of rows, each of what no clause says: that a call which may want memory succeeds
-//! where there is memory; that a board goes by its own events alone; that a whole board has
-//! the history that a watch is told, and the figures of one by steps; that readers find what was published; and what a hint tells
-//! that may be silent.
+//! Tests of the crates from the plan to the result store. Each tests a property that no clause states:
 //!
-//! They stand in a crate of their own, since a crate with tests is proved twice.
+//! - A call that may run out of memory succeeds if there is enough memory.
+//! - A board follows only its own events.
+//! - A whole board has the history that its watch sees, and the figures of a board that runs by steps.
+//! - Readers find what was published.
+//! - A hint that need not be given is given.
+//!
+//! The tests are in a separate crate, because a crate with tests is proved twice.
 #![tactic(auto)]
 
 #[cfg(test)]

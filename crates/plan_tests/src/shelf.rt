@@ -1,5 +1,5 @@
-//! Readers of a shelf: no clause says that they find what was published, also beside the thread that publishes, nor that they
-//! find nothing any more once the publisher is dropped.
+//! Readers of a shelf. No clause says that they find what was published, also while another thread publishes, or that
+//! they find nothing after the publisher is dropped.
 ghost use Rattle.std.specs.Prelude.{◌≡◌};
 
 use plan_compiler::set::CompiledSet;
@@ -18,7 +18,7 @@ use std::sync::{Arc, Wait};
 use std::thread;
 use std::thread::Threads;
 
-// Publication 1 is of the set D1, and 2 of D2.
+// Whether the set is the set of this publication: D1 for number 1, and D2 for number 2.
 fn is_publication(number: u64, set: &CompiledSet) -> bool {
     let id = set.tables().set_id().as_bytes();
     match number {
@@ -28,7 +28,7 @@ fn is_publication(number: u64, set: &CompiledSet) -> bool {
     }
 }
 
-// Publishes a set and the next, of which a reader learns the other way round: it finds the second.
+// Publishes a parameter set and the next one. A reader learns of them in reverse order, and finds the second.
 fn publishes_and_reads<S: ShelfName, R: Wait + Abort>(
     rt: &R,
     alloc: Global,
@@ -56,7 +56,7 @@ fn finds_nothing<S: ShelfName, R: Wait + Abort>(rt: &R, reader: &mut Reader<S>) 
     reader.current(rt).expect(rt, "memory suffices").is_none()
 }
 
-// What a reader finds before the first publication, after the second, and once the publisher is dropped.
+// Tests what a reader finds before the first publication, after the second, and after the publisher is dropped.
 fn learns<S: ShelfName, R: Wait + Abort>(rt: &R, alloc: Global, history: History)
     requires { history ≡ S.book }
 {
@@ -74,8 +74,8 @@ fn one_reader(rt: HostRuntime) {
     learns::<Brand, _>(&rt, rt.alloc(), History::new());
 }
 
-// Looks until publication 2 is current, 10^7 times at most, and once after the publisher has ended. Whether it was, no
-// number fell, and each had its set.
+// Looks until publication 2 is current, at most 10^7 times, and once more after the publisher has ended. Returns
+// whether it became current, no number decreased, and each number had its set.
 fn reads_to_the_second<S: ShelfName, R: Wait>(
     rt: &R,
     reader: &mut Reader<S>,
@@ -98,7 +98,7 @@ fn reads_to_the_second<S: ShelfName, R: Wait>(
     false
 }
 
-// Two readers, each in a thread of its own: whether both read to the second publication.
+// Runs two readers, each in its own thread, and returns whether both read up to the second publication.
 fn both_read<S: ShelfName + Send + Sync, R: Threads + Wait + Sync>(
     rt: &R,
     one: &mut Reader<S>,
@@ -113,7 +113,7 @@ fn both_read<S: ShelfName + Send + Sync, R: Threads + Wait + Sync>(
     first && second
 }
 
-// Publishes a set and the next, and says when that is done: whether both were published.
+// Publishes a parameter set and the next one, and signals the end. Returns whether both were published.
 fn publishes_both<S: ShelfName, R: Wait + Abort>(
     rt: &R,
     alloc: Global,
@@ -130,7 +130,7 @@ fn publishes_both<S: ShelfName, R: Wait + Abort>(
     first && second
 }
 
-// Whether two readers beside a publisher read to its second publication.
+// Whether two readers, concurrently with a publisher, read up to its second publication.
 fn reads_beside<S: ShelfName + Send + Sync, R: Threads + Wait + Abort + Sync>(
     rt: &R,
     alloc: Global,

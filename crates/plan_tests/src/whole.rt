@@ -1,4 +1,5 @@
-//! Whole boards: that their history is what happened, and that their figures are those of a board whose steps go one by one.
+//! Whole boards: their history is the order in which steps ran, and their figures equal the figures of a board that
+//! runs step by step.
 use sample_files::{calendar, one_future, option_values, three_commodities, two_commodities};
 use sample_sets::boards::{board_of, next_task};
 use sample_sets::files::{job_of, set_of};
@@ -18,8 +19,8 @@ use step_scheduler::watches::Watch;
 /// The files of an account: parameters and positions.
 type Files = (&'static [u8], &'static [u8]);
 
-/// Three commodities under a version in which options have a value: the second has two spreads, and spreads stand between the first
-/// and the others.
+/// Three commodities under a profile in which options have a value. The second commodity has two spreads, and there are
+/// spreads between the first and each of the others.
 const WITH_VALUES: &[u8] = b"\
 SET,D2,2,USD
 COMMODITY,AA,0,SUM
@@ -37,8 +38,8 @@ INTER,1,5000,AA,A,1,BB,B,1
 INTER,2,2000,AA,A,1,CC,B,1
 ";
 
-/// Accounts under plans with and without spreads of each kind, and with the steps of option values. The last two hold nothing of the
-/// first commodity, and nothing of the last two.
+/// Accounts under plans with and without spreads of each kind, and with the steps of option values. The last two
+/// accounts have no holdings in the first commodity, or in the last two.
 const ACCOUNTS: [Files; 7] = [
     (one_future::PARAMS, one_future::POSITIONS),
     (calendar::PARAMS, calendar::POSITIONS),
@@ -49,7 +50,7 @@ const ACCOUNTS: [Files; 7] = [
     (WITH_VALUES, b"X,FA,1\n"),
 ];
 
-// A watch that is to be told these steps, in their order, and no other.
+// A watch that expects these steps, in their order, and no others.
 #[derive(Drop)]
 struct InOrder {
     steps: Vec<u32>,
@@ -58,7 +59,7 @@ struct InOrder {
 }
 
 impl InOrder {
-    // A watch for the steps that these events take.
+    // Returns a watch for the steps that these events take.
     fn of_takes(rt: &impl Abort, alloc: Global, events: &[Event]) -> InOrder {
         let mut steps = Vec::new(alloc);
         for event in events {
@@ -73,7 +74,7 @@ impl InOrder {
         }
     }
 
-    // Whether it was told all of them, and nothing else.
+    // Whether the watch saw all of these steps and no others.
     fn was_told_all(&self) -> bool {
         self.told.load(SeqCst) == self.steps.len() && !self.astray.load(SeqCst)
     }
@@ -112,7 +113,7 @@ fn expect_equal(rt: &impl Abort, one: &Board, other: &Board) {
     assert!(rt; one.total() == other.total() && one.value() == other.value());
 }
 
-// The whole board of a job, whose history is the course that its watch was told.
+// The whole board of a job. Its history is the course of steps that its watch saw.
 fn whole_board(rt: &impl Abort, alloc: Global, job: &Arc<Job>, memory: &mut RunMemory) -> Board {
     let course = Course::of(alloc, job.set()).expect(rt, "a course");
     let watch = InOrder::of_takes(rt, alloc, course.events());
@@ -122,7 +123,7 @@ fn whole_board(rt: &impl Abort, alloc: Global, job: &Arc<Job>, memory: &mut RunM
     whole
 }
 
-// A whole board of each account, watched, next to one that goes by steps. All work in the same memory.
+// For each account, a whole board with a watch, and a board that runs by steps. All whole boards use the same memory.
 #[test]
 fn whole_boards_beside_boards_by_steps(rt: HostRuntime) {
     let alloc = rt.alloc();
@@ -134,13 +135,13 @@ fn whole_boards_beside_boards_by_steps(rt: HostRuntime) {
     }
 }
 
-/// The order of the steps of two commodities with a spread between them (docs/ARCHITECTURE.md): those of each commodity but its figures,
-/// those between commodities, the figures, the totals.
+/// The order of the steps of two commodities with a spread between them (docs/ARCHITECTURE.md): the steps of each
+/// commodity except its figures, the steps between commodities, the figures, the totals.
 const OF_TWO_COMMODITIES: [usize; 23] = [
     0, 1, 2, 3, 4, 5, 6, 8, 9, 10, 11, 12, 13, 14, 16, 17, 18, 19, 7, 15, 20, 21, 22,
 ];
 
-// A course takes and finishes one step after the other, the lowest that is ready first.
+// A course takes and finishes one step at a time. The ready step with the lowest number comes first.
 #[test]
 fn lowest_ready_step_first(rt: HostRuntime) {
     let set = set_of(rt.alloc(), two_commodities::PARAMS).expect(&rt, "a set");
