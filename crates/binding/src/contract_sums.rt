@@ -162,7 +162,7 @@ impl Sums {
         self.places[number] = sum;
     }
 
-    /// Returns the non-zero sums as holdings. The result first has room for `room` holdings.
+    /// Returns the non-zero sums as holdings. The result is allocated with room for `room` of them.
     pub(crate) fn holdings(&self, alloc: Global, room: usize) -> Result<Vec<Holding>, AllocError>
         ensures { IfOk result (λ held. held.items ≡ map kept_holding (holdings_from self.now (length self.now))) }
     {
