@@ -37,7 +37,7 @@ module _ (fault : ℕ → List ℕ → BindFault) (known over exceeds : Position
     (alike : (x p : PositionRecord) → same x p ≡ true → over p ≡ true → over x ≡ true) (all : List PositionRecord)
     (is : (k : ℕ) (d : PositionRecord) → k < length all
     → exceeds (get_or all k d) ≡ known (get_or all k d) && over (get_or all k d)) where
-  -- an earlier record
+  -- both rules agree about an earlier record
   one : (p x : PositionRecord) → over p ≡ true → (same x p && (known x && over x)) ≡ (known x && same x p)
   one p x e = by (same x p) refl
     where

@@ -67,7 +67,7 @@ abbrev pub first_unfit : (ℕ → List ℕ → BindFault) → (List PositionReco
     → List PositionRecord → Option BindFault
 first_unfit fault unfit all = first_of (all_unfit fault unfit all)
 
--- The faults of records that each have an owner and a contract, built by the functions b1, b2 and b3. `is_over` says
+-- The faults of records that each have an owner and a contract, built by `unknown`, `net` and `held`. `is_over` says
 -- whether an owner's net in a contract is over the limit, and `has_many` whether an owner holds too many contracts. The
 -- order is: each record of an unknown contract, then each net over the limit, then each owner with too many contracts.
 -- A net is reported at the first record of its owner and contract, and too many contracts at the first record of the

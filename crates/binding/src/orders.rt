@@ -203,7 +203,7 @@ impl OrderBinder {
     }
 
     /// Returns the portfolio of the account of an order with that order, given by its number from 0. The orders may be
-    /// from another binder. If it has a different number of contracts, memory for their sums is allocated again.
+    /// from another binder. If that binder has a different number of contracts, memory for their sums is allocated again.
     pub fn portfolio_after(
         &mut self,
         alloc: Global,

@@ -24,7 +24,7 @@ fn net_of_an_unknown_contract()
         ≡ bind.UnknownContract 1 (codes "X") ∷ [] }
 {}
 
-// Two nets out of range of one account are two faults.
+// Two nets of one account that are out of range are two faults.
 fn nets_of_one_account()
     ensures { bind_faults (contract_of (codes "FA") ∷ contract_of (codes "FB") ∷ [])
         (position_of (codes "X") (codes "FB") (pos (MAX_NET + 1)) ∷ position_of (codes "X") (codes "FA") (pos (MAX_NET + 1)) ∷ [])

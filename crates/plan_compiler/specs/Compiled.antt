@@ -20,11 +20,11 @@ pub record Fits (t : AcceptedTables) (holdings : List Holding) : Type 0 where
   pub portfolio : ArePortfolio holdings
   pub known : fits (length t.contracts) holdings ≡ true
 
--- what step k means for an account with these holdings
+-- the meaning of step k for an account with these holdings
 abbrev pub step_meaning : SetView → List Holding → ℕ → Value
 step_meaning set holdings k = meaning set.tables holdings (op_at set.plan k)
 
--- what the inputs of step k mean, in their order
+-- the meanings of the inputs of step k, in their order
 abbrev pub input_meanings : SetView → List Holding → ℕ → List Value
 input_meanings set holdings k = map (step_meaning set holdings) (inputs_at set.plan k)
 

@@ -13,7 +13,7 @@ use Rattle.spread_stage.proofs.ClosedLemmas.{delivery_of_nothing}
 use Rattle.inter_credit.specs.OptionValue.{net_value_of}
 use Rattle.inter_credit.specs.Requirement.{minimum_of}
 
--- no contracts have no months
+-- without contracts there are no months
 pub month_deltas_of_nothing : month_deltas [] ≡ []
 unfolding month_deltas
 month_deltas_of_nothing = refl

@@ -29,7 +29,7 @@ op_text (op.NetValue c) = numbered (codes "NetValue") c
 op_text op.ValueStart = codes "ValueStart()"
 op_text (op.ValueAdd c) = numbered (codes "ValueAdd") c
 
--- an input, with the space in front of it
+-- an input, preceded by a space
 abbrev pub input_text : ℕ → List ℕ
 input_text input = codes " " ++ decimal input
 

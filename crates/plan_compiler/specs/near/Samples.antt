@@ -9,7 +9,7 @@ use Rattle.span_tables.specs.declared.records.Record.TheVariants as record_of
 abbrev pub set_alone : List Record
 set_alone = set (codes "D1") ∷ []
 
--- the lines of its plan
+-- the plan listing of `set_alone`
 abbrev pub set_alone_lines : List ℕ
 set_alone_lines = codes "0 InterStart()\n1 TotalStart()\n"
 
@@ -24,7 +24,7 @@ two_commodities =
     ∷ spread 1 5000 (codes "AA") (codes "BB")
     ∷ []
 
--- the lines of its plan
+-- the plan listing of `two_commodities`
 abbrev pub two_commodities_lines : List ℕ
 two_commodities_lines =
     codes "0 Gather(0)\n1 Sums(0) 0\n2 ScanMax(0) 1\n3 Months(0) 0\n4 TierStart(0) 3\n"
@@ -42,7 +42,7 @@ one_commodity_with_value =
     ∷ record_of.Contract (contract product.Future (codes "FA") (codes "AA") 202503 future_values)
     ∷ []
 
--- the lines of its plan
+-- the plan listing of `one_commodity_with_value`
 abbrev pub one_commodity_with_value_lines : List ℕ
 one_commodity_with_value_lines =
     codes "0 Gather(0)\n1 Sums(0) 0\n2 ScanMax(0) 1\n3 Months(0) 0\n4 TierStart(0) 3\n5 Delivery(0) 3 4\n6 Minimum(0) 0\n"
