@@ -92,8 +92,8 @@ pub fn bind_positions(
 }
 
 /// Returns all faults of the positions, B1 to B3 (docs/FORMATS.md, "All faults"). First comes each record whose
-/// contract the tables do not have. Without these records, each net out of range follows, and then each account that
-/// holds too many contracts.
+/// contract the tables do not have. Then follow each net out of range and each account that holds too many contracts,
+/// computed without these records.
 pub fn bind_faults(
     alloc: Global,
     tables: &Tables,

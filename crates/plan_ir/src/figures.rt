@@ -57,8 +57,8 @@ impl Figures {
     }
 
     /// Returns the figures of a commodity, given by its number, from the values of its stages (docs/METHOD.md, "Minimum
-    /// and requirement"). These are its scan, its delivery charge and its short option minimum, the exact charge of its
-    /// intracommodity spreads (in 10^-4 minor units), and the commodities after all intercommodity spreads.
+    /// and requirement"). These are its scan, the exact charge of its intracommodity spreads (in 10^-4 minor units),
+    /// its delivery charge, its short option minimum, and the commodities after all intercommodity spreads.
     pub fn of_stages(
         scan: &Scan,
         charge: u128,

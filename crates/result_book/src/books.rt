@@ -110,7 +110,7 @@ impl ResultBook {
     /// Appends a row to a batch.
     ///
     /// Fails with `NoSuchBatch` if no batch of this number was opened, otherwise with `AlreadyThere` if the batch has a
-    /// row of the account, and otherwise with `OutOfMemory` if memory runs out. The book is then unchanged, and the
+    /// row of the account. Otherwise it fails only with `OutOfMemory`. After a failure the book is unchanged, and the
     /// error contains the row.
     pub fn put(&mut self, batch: u64, row: Arc<Row>) -> Result<(), PutRefused>
         ensures accepted { OnOk result (put_fault self.old batch (account_of_row (arc_value row)) ≡ None) }
