@@ -1,4 +1,4 @@
--- Each step of a deque or of the result queue keeps the balance rule.
+-- Each step of a deque or of the result queue preserves the balance rule.
 use Rattle.std.proofs.Common.{◌≡◌, ◌≢◌, ℕ, zero, suc, ◌+◌, ◌<◌, All, List, [], ◌∷◌}
 use Rattle.std.proofs.Common.{◌++◌, length, set, sym, refl, ap, subst, ⊎_elim, arith}
 use mathlib.Core.Option.{some, some-ne-none, some-injective}
@@ -33,7 +33,7 @@ module _ {T : Type 0} where
   part_of f (x ∷ xs) zero v at = let e = ap f (some-injective x v at) in omega arith
   part_of f (x ∷ xs) (suc j) v at = omega (arith, part_of f xs j v at)
 
-  -- a number of views is 0 of each view with no part
+  -- the number f of a view is 0 for each view without parts
   abbrev IsIdle : (PassView T → ℕ) → List (PassView T) → Type 0
   IsIdle f views = (port : ℕ) (v : PassView T) → get_elem? views port ≡ some v → v.parts ≡ 0 → f v ≡ 0
 
@@ -42,7 +42,7 @@ module _ {T : Type 0} where
   none f [] parts idle = refl
   none f (x ∷ xs) parts idle = let e = idle 0 x refl (omega arith) in omega (arith, none f xs (omega arith) (λ j. idle (suc j)))
 
-  -- the view with all parts has all
+  -- if one view has all parts, the total of f over all views is f of this view
   whole : (f : PassView T → ℕ) (views : List (PassView T)) (port : ℕ) (v : PassView T) → get_elem? views port ≡ some v
       → total (λ u. u.parts) views ≡ v.parts → IsIdle f views → total f views ≡ f v
   whole f [] port v at parts idle = absurd (some-ne-none v (sym at))
@@ -86,7 +86,7 @@ module _ {T : Type 0} (IsOf : List JobView → T → Type 0) where
     taken = All-nil (IsOf batch);
   }
 
-  -- a step of one pass, which keeps its parts
+  -- a step that changes one pass and keeps its parts preserves the balance
   step : (items left : List T) (views : List (PassView T)) (port : ℕ) (v w : PassView T) (k : IsBalanced IsOf items views)
       → get_elem? views port ≡ some v → w.parts ≡ v.parts
       → ((h : T → ℕ) → weigh h items + weigh h w.pushed + weigh h v.taken ≡ weigh h w.taken + weigh h left + weigh h v.pushed)
@@ -134,7 +134,7 @@ module _ {T : Type 0} (IsOf : List JobView → T → Type 0) where
         refl,
       )
 
-  -- items that were inside are taken, and the others are left
+  -- taking items that were inside, and leaving the others, preserves the balance
   taken_out : (all xs left : List T) (views : List (PassView T)) (port : ℕ) (v : PassView T) → 0 < v.parts
       → (k : IsBalanced IsOf all views) → get_elem? views port ≡ some v
       → ((h : T → ℕ) → weigh h all ≡ weigh h xs + weigh h left) → All (IsOf k.batch) xs → All (IsOf k.batch) left
@@ -232,6 +232,6 @@ module _ {T : Type 0} (IsOf : List JobView → T → Type 0) where
   pub counted : (port : ℕ) (v : PassView T) → Learns (IsBalanced IsOf) port v (KnowsLeft v)
   counted port v items views k at all = (learns port v all items views k at).0
 
-  -- a pass with all parts knows where nothing is inside
+  -- a pass with all parts knows if nothing is inside
   pub finds : (port : ℕ) (v : PassView T) → Finds (IsBalanced IsOf) port v (KnowsLeft v [])
   finds port v views k at = counted port v [] views k at

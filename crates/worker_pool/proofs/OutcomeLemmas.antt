@@ -1,4 +1,4 @@
--- Outcomes of lists of accounts, one behind the other.
+-- Outcomes of concatenated lists of accounts.
 use Rattle.std.proofs.Common.{List, [], ◌∷◌, ◌++◌}
 use Rattle.span_tables.specs.Net.{AccountHoldings}
 use Rattle.plan_compiler.specs.Compiled.{SetView}

@@ -1,4 +1,4 @@
--- Each step of the result queue keeps the balance rule, as a step of a deque does.
+-- Each step of the result queue preserves the balance rule, like a step of a deque.
 use Rattle.std.proofs.Common.{◌≡◌, ℕ, ◌<◌, List, [], ◌∷◌, arith}
 use Rattle.crossbeam_queue.specs.Fifo.{Pushes, Pops}
 use Rattle.step_scheduler.specs.Jobs.{JobView}

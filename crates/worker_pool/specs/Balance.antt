@@ -1,50 +1,52 @@
--- The balance rule of a deque or of the result queue: every item is of the batch, and comes out as often as it went in.
+-- The balance rule of a deque or of the result queue: every item is of the batch, and is taken as often as it was
+-- pushed.
 use Rattle.std.specs.Prelude.{◌≡◌, ℕ, ◌+◌, ◌-◌, ◌<◌, List, [], ◌∷◌, ◌++◌, All}
 use mathlib.Core.Option.{some}
 use lib.ListN.{get_elem?}
 use Rattle.step_scheduler.specs.Jobs.{JobView}
 use Rattle.worker_pool.specs.declared.passes.PassView.{PassView}
 
--- all parts of the passes of one deque or queue together
+-- the number of parts of all passes of one deque or queue together
 abbrev pub ALL_PARTS : ℕ
 ALL_PARTS = 1024
 
--- what a pass knows: the batch that it is of, its parts, and what was pushed and taken with it
+-- what a pass knows: its batch, its parts, and the items pushed and taken with it
 abbrev pub knows : {T : Type 0} → List JobView → ℕ → List T → List T → PassView T
 knows batch parts pushed taken = record { batch = batch; parts = parts; pushed = pushed; taken = taken }
 
 module _ {T : Type 0} where
-  -- the weights of the items, added up
+  -- the sum of the weights of the items
   abbrev pub weigh : (T → ℕ) → List T → ℕ
   weigh h [] = 0
   weigh h (x ∷ xs) = h x + weigh h xs
 
-  -- what f gives of each pass, added up
+  -- the sum of f over all passes
   abbrev pub total : (PassView T → ℕ) → List (PassView T) → ℕ
   total f [] = 0
   total f (v ∷ vs) = f v + total f vs
 
-  -- what was pushed was taken or is left, each item as often as it was pushed: so it is however items are weighed
+  -- each item that was pushed was taken or is left, as often as it was pushed: the weights agree for every weight
+  -- function
   abbrev pub AsOften : List T → List T → List T → Type 0
   AsOften pushed taken left = (h : T → ℕ) → weigh h pushed ≡ weigh h taken + weigh h left
 
-  -- what a pass knows once more items were pushed with it
+  -- what a pass knows after more items were pushed with it
   abbrev pub with_pushed : PassView T → List T → PassView T
   with_pushed v items = knows v.batch v.parts (v.pushed ++ items) v.taken
 
-  -- what a pass knows once more items were taken with it
+  -- what a pass knows after more items were taken with it
   abbrev pub with_taken : PassView T → List T → PassView T
   with_taken v items = knows v.batch v.parts v.pushed (v.taken ++ items)
 
-  -- what a pass knows once a new pass was split off it
+  -- what a pass knows after a new pass was split off it
   abbrev pub without_part : PassView T → PassView T
   without_part v = knows v.batch (v.parts - 1) v.pushed v.taken
 
-  -- what the new pass knows that was split off a pass
+  -- what a new pass knows that was split off another
   abbrev pub one_part : PassView T → PassView T
   one_part v = knows v.batch 1 [] []
 
-  -- what a pass knows once another was merged into it
+  -- what a pass knows after another was merged into it
   abbrev pub merged : PassView T → PassView T → PassView T
   merged v other = knows v.batch (v.parts + other.parts) (v.pushed ++ other.pushed) (v.taken ++ other.taken)
 
@@ -57,11 +59,11 @@ module _ {T : Type 0} where
   KnowsLeft v left = v.parts ≡ ALL_PARTS → AsOften v.pushed v.taken left
 
 module _ {T : Type 0} (IsOf : List JobView → T → Type 0) where
-  -- the pass knows, after these items of its batch were taken with it, what it knew and them
+  -- after these items are taken, the pass knows them in addition to what it knew, and all of them are of its batch
   abbrev pub AreTaken : PassView T → List T → PassView T → Type 0
   AreTaken old items new = (new ≡ with_taken old items) × All (IsOf old.batch) items
 
-  -- the pass knows what is left, and that all of it and all that was pushed or taken is of its batch
+  -- the pass knows what is left, and that everything left, pushed or taken is of its batch
   abbrev pub KnowsAll : PassView T → List T → Type 0
   KnowsAll v left = AsOften v.pushed v.taken left × All (IsOf v.batch) left × All (IsOf v.batch) v.pushed × All (IsOf v.batch) v.taken
 
@@ -72,7 +74,7 @@ module _ {T : Type 0} (IsOf : List JobView → T → Type 0) where
     pub pushed : All (IsOf batch) v.pushed
     pub taken : All (IsOf batch) v.taken
 
-  -- the balance rule, over what is inside and what all passes know
+  -- the balance rule, for the items inside and the views of all passes
   pub record IsBalanced (items : List T) (views : List (PassView T)) : Type 0 where
     pub batch : List JobView
     pub parts : total (λ v. v.parts) views ≡ ALL_PARTS

@@ -1,4 +1,4 @@
-//! The accounts of a batch: those that have no board yet, and what has come of each.
+//! The accounts of a batch: those that have no board yet, and the outcome of each.
 ghost use Rattle.std.specs.Arc.{arc_value};
 ghost use Rattle.std.specs.Prelude.{◌≡◌, IfOk, IfSome, Some, map, slice_get, slice_set};
 ghost use Rattle.worker_pool.specs.Batches.{AllFit, job_at, jobs_of};
@@ -21,7 +21,7 @@ use step_scheduler::rows::Row;
 pub(crate) struct Waiting<B: Batch> {
     set: Arc<CompiledSet>,
     portfolios: VecDeque<Portfolio>,
-    // The place of the next account.
+    // The index of the next account.
     next_place: usize,
     batch: PhantomData<B>,
 }
@@ -53,12 +53,12 @@ impl<B: Batch> Waiting<B> {
         }
     }
 
-    /// How many accounts have no board yet.
+    /// Returns the number of accounts that have no board yet.
     pub(crate) fn len(&self) -> usize {
         self.portfolios.len()
     }
 
-    /// The next account's job, if there is one more.
+    /// Returns the next account's job, or `None` if no account is waiting.
     pub(crate) fn next_job(&mut self, alloc: Global) -> Result<Option<Arc<Job>>, AllocError>
         ensures { IfOk result (λ found. IfSome found (λ job. slice_get B.jobs (arc_value job).place ≡ Some (arc_value job))) }
     {
@@ -73,7 +73,7 @@ impl<B: Batch> Waiting<B> {
     }
 }
 
-// The outcome `NoMemory` for each account.
+// Returns the outcome `NoMemory` for each account.
 fn all_without_memory(alloc: Global, portfolios: &[Portfolio]) -> Result<Vec<Outcome>, AllocError>
     ensures { IfOk result (λ outcomes. outcomes.items ≡ map (λ p. NoMemory p.account) portfolios.now) }
 {
@@ -83,9 +83,9 @@ fn all_without_memory(alloc: Global, portfolios: &[Portfolio]) -> Result<Vec<Out
         .collect(alloc)
 }
 
-/// The row of an account of the batch, with the account's place.
+/// The row of an account of the batch, with the account's index.
 ///
-/// It is not `Drop`, and its fields are private: only [`Outcomes::set`] takes one apart, so none is lost.
+/// The type is not `Drop`, and its fields are private: only [`Outcomes::set`] takes one apart, so none is lost.
 pub(crate) struct RowOf<B: Batch> {
     row: Arc<Row>,
     place: usize,
@@ -107,11 +107,11 @@ impl<B: Batch> RowOf<B> {
     }
 }
 
-/// What has come of each account, in the order of the accounts: `NoMemory` at first.
+/// The outcome of each account, in account order: `NoMemory` at first.
 #[derive(Drop)]
 pub(crate) struct Outcomes<B: Batch> {
     list: Vec<Outcome>,
-    // How many accounts have not ended.
+    // The number of accounts that have not ended.
     left: usize,
     batch: PhantomData<B>,
 }
@@ -144,19 +144,19 @@ impl<B: Batch> Outcomes<B> {
         })
     }
 
-    /// Whether every account has ended.
+    /// Returns whether every account has ended.
     pub(crate) fn is_done(&self) -> bool {
         self.left == 0
     }
 
-    /// One account more has ended.
+    /// Counts one more account as ended.
     pub(crate) fn count_ended(&mut self)
         ensures { self.new ≡ self.old }
     {
         self.left = self.left.saturating_sub(1);
     }
 
-    /// Gives an account its row.
+    /// Stores the row of an account at the account's index.
     pub(crate) fn set(&mut self, row: RowOf<B>)
         ensures { self.new ≡ slice_set self.old row.place (Margined row.row) }
     {
@@ -168,7 +168,7 @@ impl<B: Batch> Outcomes<B> {
         self.list[place] = Outcome::Margined(row);
     }
 
-    /// The outcomes, in the order of the accounts.
+    /// Returns the outcomes, in account order.
     pub(crate) fn into_vec(self) -> Vec<Outcome>
         ensures list { result.items ≡ self }
         ensures of_jobs { AreOutcomesOf B.jobs result.items }

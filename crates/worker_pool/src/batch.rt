@@ -1,4 +1,4 @@
-//! Batches on many workers, which steal steps from one another.
+//! Batches on several workers, which steal steps from one another.
 ghost use Rattle.std.specs.Arc.{arc_value};
 ghost use Rattle.std.specs.Prelude.{◌≡◌, ◌+◌, ◌<◌, ◌⊎◌, ◌↔◌, ◌∷◌, Err, IfOk, map, vec_len};
 ghost use Rattle.std.specs.List.{range_with_len};
@@ -32,7 +32,7 @@ use thiserror::Error;
 /// The most workers that a batch can have.
 pub const MAX_WORKERS: usize = 16;
 
-/// Why a batch is not run.
+/// The reasons why a batch is not run.
 #[derive(Clone, Copy, Debug, Drop, PartialEq, Eq, Error)]
 pub enum PoolFault {
     /// There are no workers, or more than 16.
@@ -43,8 +43,8 @@ pub enum PoolFault {
     OutOfMemory,
 }
 
-// The helpers of a team, with the numbers behind the coordinator's. The thieves' ends of each helper's deque go onto `left`, in
-// the order of the helpers.
+// Returns the helpers of a team. Their numbers follow the coordinator's. The thieves' ends of each helper's deque are
+// appended to `left`, in the order of the helpers.
 fn open_helpers<'a, B: Batch, G: Gate>(
     alloc: Global,
     gate: &'a G,
@@ -65,7 +65,7 @@ fn open_helpers<'a, B: Batch, G: Gate>(
     Ok(all)
 }
 
-// Gives each helper but the owner of a deque a thief's end of it. The owner is known by its number.
+// Gives a thief's end of a deque to each helper except the deque's owner, which is identified by its number.
 fn share_out<B: Batch, G: Gate>(
     thieves: Vec<ThiefEnd<B>>,
     owner: usize,
@@ -84,7 +84,7 @@ fn share_out<B: Batch, G: Gate>(
     Ok(())
 }
 
-// Shares out the thieves' ends of the helpers' deques: of each deque one goes to the coordinator, and one to each other helper.
+// Shares out the thieves' ends of the helpers' deques. The coordinator and each other helper get one end of each deque.
 fn share_out_all<B: Batch, G: Gate>(
     left: Vec<Vec<ThiefEnd<B>>>,
     coordinator: &mut Worker<B, G>,
@@ -104,8 +104,8 @@ fn share_out_all<B: Batch, G: Gate>(
     Ok(())
 }
 
-// The coordinator's worker and the helpers, from their ends of the queue. Each has a thief's end of each other worker's deque.
-// Their numbers are those of the team, each one's its own.
+// Returns the coordinator's worker and the helpers, from their ends of the queue. Each worker has a thief's end of each
+// other worker's deque, and a number of the team that no other worker has.
 fn open_workers<'a, B: Batch, G: Gate>(
     alloc: Global,
     gate: &'a G,
@@ -125,7 +125,8 @@ fn open_workers<'a, B: Batch, G: Gate>(
     Ok((coordinator, crew))
 }
 
-// Runs the coordinator here and each helper in a thread of its own. A helper whose thread is not started is done without.
+// Runs the coordinator here and each helper in its own thread. If a helper's thread does not start, the batch runs
+// without it.
 fn run_all<'a, B: Batch + Send + Sync, R: Threads + Wait + Clock + Sync, G: Gate>(
     rt: &R,
     coordinator: Coordinator<'a, B, G>,
@@ -152,7 +153,8 @@ fn run_all<'a, B: Batch + Send + Sync, R: Threads + Wait + Clock + Sync, G: Gate
     )
 }
 
-// The batch by a team of more than one worker. Its type names the jobs, and no type of the signature does.
+// Runs the batch by a team of more than one worker. The type parameter names the jobs, which no type of the caller's
+// signature does.
 fn run_on_many<B: Batch + Send + Sync, R: Threads + Wait + Clock + Sync, G: Gate>(
     rt: &R,
     alloc: Global,
@@ -174,12 +176,12 @@ fn run_on_many<B: Batch + Send + Sync, R: Threads + Wait + Clock + Sync, G: Gate
     Ok(run_all(rt, coordinator, crew))
 }
 
-/// The outcomes of accounts under a set, in their order, by a team, whose workers pass the gate under their numbers. The portfolios
-/// fit the set's tables.
+/// Returns the outcomes of accounts under a parameter set, in account order. They are computed by a team whose workers
+/// pass the gate under their numbers. The portfolios fit the set's tables.
 ///
-/// It fails where the deques, the queue, their passes or the lists of the batch have no memory. An account has `NoMemory` where its
-/// job, its board, a step or its row has no memory. For one worker no thread is started: all goes as in
-/// [`run_plain`](crate::plain::run_plain), past the gate.
+/// Fails if there is no memory for the deques, the queue, their passes or the lists of the batch. An account has the
+/// outcome `NoMemory` if there is no memory for its job, its board, a step or its row. For one worker no thread is
+/// started: the batch runs as in [`run_plain`](crate::plain::run_plain), and passes the gate.
 pub fn run_by_team<R: Threads + Wait + Clock + Sync, G: Gate>(
     rt: &R,
     alloc: Global,
@@ -198,10 +200,11 @@ pub fn run_by_team<R: Threads + Wait + Clock + Sync, G: Gate>(
     }
 }
 
-/// The outcomes of accounts under a set, in their order, on 1 to 16 workers. The portfolios fit the set's tables.
+/// Returns the outcomes of accounts under a parameter set, in account order, computed on 1 to 16 workers. The
+/// portfolios fit the set's tables.
 ///
-/// A number of workers that is 0 or over 16 is refused before anything is made. Else all goes as in [`run_by_team`], by one team
-/// whose numbers begin with 0. `OutOfMemory` is where that fails.
+/// A number of workers that is 0 or over 16 is rejected before anything is allocated. Otherwise the batch runs as in
+/// [`run_by_team`], with one team whose numbers begin with 0. Fails with `OutOfMemory` if that call fails.
 pub fn run_batch<R: Threads + Wait + Clock + Sync, G: Gate>(
     rt: &R,
     alloc: Global,

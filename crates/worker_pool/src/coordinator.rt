@@ -1,4 +1,4 @@
-//! The thread that opens the boards of a batch, hands out and takes back their steps, and keeps the outcomes.
+//! The worker that opens the boards of a batch, hands out their steps, takes back the results, and keeps the outcomes.
 ghost use Rattle.std.specs.Arc.{arc_value};
 ghost use Rattle.std.specs.Prelude.{◌≡◌, IfOk, IfSome, MatchOption, MatchResult, Some, slice_get, slice_set};
 ghost use Rattle.worker_pool.specs.declared.outcomes.Outcome.TheVariants.{Margined};
@@ -18,10 +18,10 @@ use std::time::Clock;
 use step_scheduler::jobs::Job;
 use step_scheduler::rows::Row;
 
-/// How many boards are open at one moment, at most.
+/// The maximum number of boards that are open at one time.
 const MOST_OPEN: usize = 64;
 
-/// What the coordinator holds.
+/// The state of the coordinator.
 #[derive(Drop)]
 pub(crate) struct Coordinator<'a, B: Batch, G: Gate> {
     worker: Worker<'a, B, G>,
@@ -31,7 +31,7 @@ pub(crate) struct Coordinator<'a, B: Batch, G: Gate> {
 }
 
 impl<'a, B: Batch, G: Gate> Coordinator<'a, B, G> {
-    /// A coordinator of these accounts, with no open board.
+    /// Creates a coordinator of these accounts, with no open board.
     pub(crate) fn new(
         worker: Worker<'a, B, G>,
         waiting: Waiting<B>,
@@ -64,7 +64,7 @@ impl<'a, B: Batch, G: Gate> Coordinator<'a, B, G> {
         }
     }
 
-    /// The outcomes, in the order of the accounts.
+    /// Returns the outcomes, in account order.
     pub(crate) fn into_outcomes(self) -> Vec<Outcome>
         ensures list { result.items ≡ self.entry.outcomes }
         ensures of_jobs { AreOutcomesOf B.jobs result.items }
@@ -73,8 +73,8 @@ impl<'a, B: Batch, G: Gate> Coordinator<'a, B, G> {
         outcomes.into_vec()
     }
 
-    // A result that waits in the queue. Where none waits, the result of a task that the coordinator pops or steals, and
-    // evaluates itself.
+    // Returns a result that waits in the queue. If none waits, pops or steals a task, evaluates it here, and returns
+    // its result.
     fn find_result<R: Wait>(&mut self, rt: &R) -> Option<FinishedOf<B>> {
         let worker = &mut self.worker;
         if let Some(done) = worker.results.pop(rt) {
@@ -87,7 +87,7 @@ impl<'a, B: Batch, G: Gate> Coordinator<'a, B, G> {
         Some(worker.evaluate(task))
     }
 
-    // Opens boards in account order, while accounts wait and no more boards are open than may be.
+    // Opens boards in account order, while accounts wait and fewer than `MOST_OPEN` boards are open.
     fn open_more(&mut self) {
         for _ in 0..self.waiting.len() {
             if self.boards.len() >= MOST_OPEN {
@@ -104,7 +104,8 @@ impl<'a, B: Batch, G: Gate> Coordinator<'a, B, G> {
         }
     }
 
-    // Opens the board of a job, and pushes all that it hands out. The row of its account, if the board is complete then.
+    // Opens the board of a job, and pushes all tasks that it hands out. Returns the row of its account if the board is
+    // then complete.
     fn open_board(&mut self, job: Arc<Job>) -> Result<Option<RowOf<B>>, AllocError>
         requires { slice_get B.jobs (arc_value job).place ≡ Some (arc_value job) }
         ensures { IfOk result (λ r. IfSome r (λ row. row.place ≡ (arc_value job).place)) }
@@ -120,7 +121,8 @@ impl<'a, B: Batch, G: Gate> Coordinator<'a, B, G> {
         }
     }
 
-    // Gives a result to the board of its place, and pushes all that this makes ready. A result of no open board is dropped.
+    // Gives a result to the board of its index, and pushes all tasks that become ready. Drops the result if that board
+    // is not open.
     fn take_back(&mut self, done: FinishedOf<B>) {
         let place = done.place();
         let Some(at) = self.boards.iter().position(|board| board.place() == place) else {
@@ -133,7 +135,7 @@ impl<'a, B: Batch, G: Gate> Coordinator<'a, B, G> {
         self.end_account(went);
     }
 
-    // Ends an account, with its row, or as out of memory. `None` ends no account.
+    // Ends an account, with its row or as out of memory. With `None` no account ends.
     fn end_account(&mut self, went: Result<Option<RowOf<B>>, AllocError>)
         ensures { MatchResult went
             (λ r. MatchOption r (self.new.outcomes ≡ self.old.outcomes)

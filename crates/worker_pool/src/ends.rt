@@ -1,5 +1,5 @@
-//! What a worker holds of the deques of a batch. The types keep that all tasks and results are of the batch, so that the code
-//! above needs no clause.
+//! A worker's ends of the deques of a batch. The invariants of the types say that all tasks and results are of the
+//! batch, so that the callers need no clause for it.
 ghost use Rattle.crossbeam_deque.specs.Handles.{IsPassOf, stealer_deque, view, worker_deque, worker_view};
 ghost use Rattle.std.specs.Prelude.{◌≡◌, ◌<◌, IfErr};
 ghost use Rattle.worker_pool.specs.Batches.{IsResultOf, IsTaskOf};
@@ -43,7 +43,7 @@ impl<B: Batch> TaskOf<B> {
         }
     }
 
-    /// The task's result, once the worker of a number has passed the gate with the task.
+    /// Passes the gate with the task under a worker's number, then evaluates the task and returns its result.
     pub(crate) fn evaluate<G: Gate>(self, alloc: Global, gate: &G, worker: usize) -> FinishedOf<B>
         requires { worker < MAX_WORKERS }
         ensures { result.finished.job ≡ self.task.job }
@@ -65,14 +65,14 @@ impl<B: Batch> FinishedOf<B> {
         }
     }
 
-    /// The place of the result's account.
+    /// Returns the index of the result's account.
     pub(crate) fn place(&self) -> usize
         ensures { result ≡ self.now.finished.job.place }
     {
         self.finished.job().place()
     }
 
-    /// The finished step.
+    /// Returns the finished step.
     pub(crate) fn into_finished(self) -> Finished
         ensures finished { result ≡ self.finished }
         ensures batch { IsResultOf B.jobs result }
@@ -118,7 +118,8 @@ impl<B: Batch> Model for ThiefEnd<B> {
         × (0 < (pass_view e.pass).parts) };
 }
 
-/// A deque of so many places at first, with its ends for so many thieves.
+/// Creates a deque with the given initial capacity, and returns its ends for the owner and for the given number of
+/// thieves.
 pub(crate) fn open_deque<B: Batch>(
     alloc: Global,
     places: usize,
@@ -137,7 +138,7 @@ pub(crate) fn open_deque<B: Batch>(
 }
 
 impl<B: Batch> OwnEnd<B> {
-    /// Adds a task at the back. A refused task comes back.
+    /// Adds a task at the back. If the push fails, returns the task.
     pub(crate) fn push(&mut self, task: TaskOf<B>) -> Result<(), TaskOf<B>>
         ensures { IfErr result (λ back. back.task ≡ task.task) }
     {
@@ -148,7 +149,7 @@ impl<B: Batch> OwnEnd<B> {
         }
     }
 
-    /// The task at the front.
+    /// Takes the task at the front.
     pub(crate) fn pop(&mut self) -> Option<TaskOf<B>> {
         let task = pop_task(&mut self.deque)?;
         Some(TaskOf::new(task))
@@ -156,7 +157,7 @@ impl<B: Batch> OwnEnd<B> {
 }
 
 impl<B: Batch> ThiefEnd<B> {
-    /// The task at the front, unless another worker took it meanwhile.
+    /// Takes the task at the front, unless another worker took it meanwhile.
     pub(crate) fn steal(&mut self) -> Option<TaskOf<B>> {
         match steal_task(&self.thief, &mut self.pass) {
             Steal::Success(task) => Some(TaskOf::new(task)),

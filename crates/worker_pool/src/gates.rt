@@ -1,16 +1,17 @@
-//! What each evaluation of a batch passes first.
+//! The gate that a worker passes before each evaluation of a batch.
 ghost use Rattle.std.specs.Prelude.{◌<◌};
 ghost use Rattle.worker_pool.specs.declared.batch.TheConstants.{MAX_WORKERS};
 
 use span_tables::name::Name;
 
-/// A gate that workers share: a worker passes it before each evaluation, with its number, which is below 16, the account and the
-/// step's number in the plan. Worker 0 is the coordinator of the first team. Tests watch and hold workers there.
+/// A hook that workers share. A worker calls it before each evaluation, with its number, which is below 16, the
+/// account, and the step's number in the plan. Worker 0 is the coordinator of the first team. Tests observe and stop
+/// workers there.
 pub trait Gate: Sync {
     fn pass(&self, worker: usize, account: &Name, step: usize)
         requires { worker < MAX_WORKERS };
 
-    /// Passed by the thread that makes the next set of a roll ready, before it begins.
+    /// Called by the thread that prepares the next parameter set of a roll, before it begins.
     fn beside(&self) {}
 }
 

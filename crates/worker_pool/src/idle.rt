@@ -1,15 +1,15 @@
-//! How a worker waits that finds nothing to do.
+//! How a worker that finds nothing to do waits.
 use std::thread;
 use std::time::{Clock, Duration};
 
-/// How often in a row a coordinator that finds nothing only yields, and for how many microseconds it then sleeps at first.
-/// What a coordinator waits for is under way.
+/// How often in a row a coordinator that finds nothing only yields, and for how many microseconds it then sleeps at
+/// first. The results that a coordinator waits for are already being computed.
 const YIELDS_OF_COORDINATOR: u32 = 16;
 
 const SLEEP_OF_COORDINATOR: u64 = 100;
 
-/// How often a helper only yields, and how long it then sleeps at first. What a helper looks for may not come for long, and
-/// each look takes time from those that work.
+/// How often a helper only yields, and for how many microseconds it then sleeps at first. A helper may have to wait
+/// long for a task, and each look slows down the workers that compute.
 const YIELDS_OF_HELPER: u32 = 1;
 
 const SLEEP_OF_HELPER: u64 = 500;
@@ -17,7 +17,7 @@ const SLEEP_OF_HELPER: u64 = 500;
 /// The longest time for which a worker sleeps, in microseconds.
 const LONGEST: u64 = 1_000;
 
-/// A worker's patience: it yields at first, and then sleeps, longer the longer it finds nothing.
+/// A worker's patience: it yields at first, and then sleeps. Each sleep in a row is longer than the one before.
 #[derive(Drop)]
 pub(crate) struct Patience {
     yields: u32,
@@ -27,12 +27,12 @@ pub(crate) struct Patience {
 }
 
 impl Patience {
-    /// The patience of a coordinator that has just found something.
+    /// Returns the patience of a coordinator that has just found something.
     pub(crate) fn of_coordinator() -> Patience {
         Patience::new(YIELDS_OF_COORDINATOR, SLEEP_OF_COORDINATOR)
     }
 
-    /// The patience of a helper that has just found something.
+    /// Returns the patience of a helper that has just found something.
     pub(crate) fn of_helper() -> Patience {
         Patience::new(YIELDS_OF_HELPER, SLEEP_OF_HELPER)
     }
@@ -46,7 +46,7 @@ impl Patience {
         }
     }
 
-    /// Something was found.
+    /// Resets the patience, since something was found.
     pub(crate) fn renew(&mut self) {
         self.turns = 0;
         self.sleep = self.shortest;

@@ -1,7 +1,8 @@
 //! The atomic steps of deques and of the result queue of a batch, each under the balance rule.
 //!
-//! A pass goes with each end: what was pushed and taken with it is known to contracts. The first pass of a deque or of
-//! the queue has all 1024 parts; a pass that is split off has one of them; who has them all knows the whole.
+//! Each end has a pass, a ghost token that lists for contracts what was pushed and taken with it. The first pass of a
+//! deque or of the queue has all 1024 parts, and a pass that is split off has one. A pass with all parts accounts for
+//! every item.
 ghost use Rattle.crossbeam_deque.specs.Handles.{IsPassOf, SamePass, SameWorker, stealer_deque, worker_deque};
 ghost use Rattle.crossbeam_deque.specs.Handles.{view, worker_capacity, worker_flavor, worker_index, worker_view};
 ghost use Rattle.std.specs.Int.{IsNextPowerOfTwo};
@@ -24,7 +25,7 @@ use std::sync::Wait;
 use step_scheduler::finished::Finished;
 use step_scheduler::tasks::Task;
 
-/// The places of the result queue.
+/// The number of slots of the result queue.
 pub const RESULT_PLACES: usize = 256;
 
 /// Names a batch by its jobs.
@@ -68,7 +69,7 @@ impl<B: Batch> queue::Protocol<Finished, PassView<Finished>> for OfBatch<B> {
     ghost first = { knows B.jobs ALL_PARTS [] [] };
 }
 
-// A push adds the item to what was pushed.
+// A push appends the item to the pushed items.
 struct Pushed;
 
 impl Outcome<Task, PassView<Task>> for Pushed {
@@ -79,12 +80,12 @@ impl queue::Outcome<Finished, PassView<Finished>> for Pushed {
     ghost then = { λ v finished w. w ≡ with_pushed v (finished ∷ []) };
 }
 
-// A push on the queue is refused where the queue is full: what is left fills it.
+// A push on the queue fails if the queue is full, that is, if the items left fill it.
 impl queue::Lesson<Finished, PassView<Finished>> for Pushed {
     ghost fact = { KnowsLeft };
 }
 
-// A pop of the queue or a steal adds the item to what was taken, and the item is of the batch.
+// A pop of the queue or a steal appends the item to the taken items, and the item is of the batch.
 struct Taken;
 
 impl Outcome<Task, PassView<Task>> for Taken {
@@ -95,12 +96,12 @@ impl queue::Outcome<Finished, PassView<Finished>> for Taken {
     ghost then = { λ v finished w. (w ≡ with_taken v (finished ∷ [])) × IsResultOf v.batch finished };
 }
 
-// A pop of the queue finds nothing where nothing is left.
+// A pop of the queue finds nothing if nothing is left.
 impl queue::Lesson<Finished, PassView<Finished>> for Taken {
     ghost fact = { KnowsLeft };
 }
 
-// A pop of a deque adds the task to what was taken, and finds nothing where nothing is left.
+// A pop of a deque appends the task to the taken items, and finds nothing if nothing is left.
 struct Popped;
 
 impl Outcome<Task, PassView<Task>> for Popped {
@@ -124,7 +125,7 @@ impl queue::Split<PassView<Finished>> for OnePart {
     ghost right = { one_part };
 }
 
-// The first pass has what both had, and the second nothing.
+// The first pass gets what both passes had, and the second has nothing left.
 struct Merged;
 
 impl Join<PassView<Task>> for Merged {
@@ -165,7 +166,8 @@ pub type Results<B> = RuledArrayQueue<Finished, PassView<Finished>, OfBatch<B>>;
 /// A pass of the result queue.
 pub type ResultPass = crossbeam_queue::Pass<Finished, PassView<Finished>>;
 
-/// An empty deque, out of which tasks come in the order in which they went in (its flavor is 0). Its pass has all parts.
+/// Creates an empty deque, whose tasks come out in the order in which they were pushed (its flavor is 0). Its pass has
+/// all parts.
 pub fn new_deque<B: Batch>(alloc: Global, capacity: usize) -> Result<Deque<B>, AllocError>
     ensures view { IfOk result (λ w. worker_view w ≡ knows B.jobs ALL_PARTS [] []) }
     ensures in_order { IfOk result (λ w. worker_flavor w ≡ 0) }
@@ -174,7 +176,7 @@ pub fn new_deque<B: Batch>(alloc: Global, capacity: usize) -> Result<Deque<B>, A
     Deque::<B>::fifo_as(alloc, capacity)
 }
 
-/// Splits a new pass with one part off the owner's.
+/// Splits a new pass with one part off the owner's pass.
 pub fn split_deque_pass<B: Batch>(owner: &mut Deque<B>) -> DequePass
     requires { 1 < (worker_view owner.old).parts }
     ensures same { SameWorker owner.old owner.new × IsPassOf (worker_deque owner.old) result }
@@ -184,7 +186,7 @@ pub fn split_deque_pass<B: Batch>(owner: &mut Deque<B>) -> DequePass
     owner.another::<OnePart>()
 }
 
-/// Adds a task of the batch at the back. A refused task comes back, and nothing changes.
+/// Adds a task of the batch at the back. If the push fails, returns the task and changes nothing.
 pub fn push_task<B: Batch>(owner: &mut Deque<B>, task: Task) -> Result<(), Task>
     requires part { 0 < (worker_view owner.old).parts }
     requires batch { IsTaskOf (worker_view owner.old).batch task }
@@ -197,7 +199,7 @@ pub fn push_task<B: Batch>(owner: &mut Deque<B>, task: Task) -> Result<(), Task>
     owner.push_as::<Pushed>(task)
 }
 
-/// Takes the task at the front, for the owner. The task is of the batch. Nothing changes where nothing is found.
+/// Takes the task at the front, for the owner. The task is of the batch. If nothing is found, nothing changes.
 pub fn pop_task<B: Batch>(owner: &mut Deque<B>) -> Option<Task>
     requires { 0 < (worker_view owner.old).parts }
     ensures same { SameWorker owner.old owner.new }
@@ -209,7 +211,7 @@ pub fn pop_task<B: Batch>(owner: &mut Deque<B>) -> Option<Task>
     owner.pop_as::<Popped>()
 }
 
-/// Takes the task at the front, for a thief. The task is of the batch. Nothing changes where nothing is found.
+/// Takes the task at the front, for a thief. The task is of the batch. If nothing is found, nothing changes.
 pub fn steal_task<B: Batch>(thief: &Thief<B>, pass: &mut DequePass) -> Steal<Task>
     requires deque { IsPassOf (stealer_deque thief.now) pass.old }
     requires part { 0 < (view pass.old).parts }
@@ -220,9 +222,9 @@ pub fn steal_task<B: Batch>(thief: &Thief<B>, pass: &mut DequePass) -> Steal<Tas
     thief.steal_as::<Taken>(pass)
 }
 
-/// Merges a pass into the owner's, where the two have all parts.
+/// Merges a pass into the owner's pass, if the two together have all parts.
 ///
-/// What was pushed with them was taken or is left, as often as it was pushed, and all of it is of the batch.
+/// Each item pushed with them was taken or is left, as often as it was pushed, and all items are of the batch.
 pub fn settle_deque<B: Batch>(owner: Deque<B>, pass: DequePass) -> Deque<B>
     requires deque { IsPassOf (worker_deque owner) pass }
     requires parts { (worker_view owner).parts + (view pass).parts ≡ ALL_PARTS }
@@ -238,7 +240,7 @@ pub fn settle_deque<B: Batch>(owner: Deque<B>, pass: DequePass) -> Deque<B>
     owner
 }
 
-/// An empty result queue of 256 places, with the pass that has all parts.
+/// Creates an empty result queue of 256 slots, and the pass that has all parts.
 pub fn new_queue<B: Batch>(alloc: Global) -> Result<(Results<B>, ResultPass), AllocError>
     ensures queue { IfOk result (λ r. IsQueuePassOf r.0 r.1 × (ruled_capacity r.0 ≡ 256)) }
     ensures view { IfOk result (λ r. queue_view r.1 ≡ knows B.jobs ALL_PARTS [] []) }
@@ -257,7 +259,7 @@ pub fn split_queue_pass<B: Batch>(queue: &Results<B>, pass: &mut ResultPass) -> 
     queue.another::<OnePart>(pass)
 }
 
-/// Adds a result of the batch at the back. A result comes back only where the queue was full, and then nothing changes.
+/// Adds a result of the batch at the back. Returns the result only if the queue was full, and then nothing changes.
 pub fn push_result<B: Batch, R: Wait>(
     rt: &R,
     queue: &Results<B>,
@@ -276,7 +278,7 @@ pub fn push_result<B: Batch, R: Wait>(
     queue.push_as::<Pushed, R>(rt, pass, finished)
 }
 
-/// Takes the result at the front. The result is of the batch. Nothing changes where nothing is found.
+/// Takes the result at the front. The result is of the batch. If nothing is found, nothing changes.
 pub fn pop_result<B: Batch, R: Wait>(
     rt: &R,
     queue: &Results<B>,
@@ -294,9 +296,9 @@ pub fn pop_result<B: Batch, R: Wait>(
     queue.pop_as::<Taken, R>(rt, pass)
 }
 
-/// Merges the second pass of the queue into the first, where the two have all parts.
+/// Merges the second pass of the queue into the first, if the two together have all parts.
 ///
-/// What was pushed with them was taken or is left, as often as it was pushed, and all of it is of the batch.
+/// Each item pushed with them was taken or is left, as often as it was pushed, and all items are of the batch.
 pub fn settle_queue<B: Batch>(
     queue: Results<B>,
     mut pass: ResultPass,

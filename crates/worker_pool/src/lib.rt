@@ -1,4 +1,4 @@
-//! Batches of accounts that are margined under one set.
+//! Batches of accounts that are margined under one parameter set.
 #![tactic(auto)]
 
 mod accounts;

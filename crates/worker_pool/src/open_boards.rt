@@ -1,4 +1,4 @@
-//! Boards that are open: the runs of a batch's accounts that have not ended.
+//! Open boards: the runs of a batch's accounts that have not ended.
 ghost use Rattle.std.specs.Arc.{arc_value};
 ghost use Rattle.std.specs.Prelude.{◌≡◌, ◌↔◌, ◌++◌, ◌∷◌, [], ℕ, IfNone, IfOk, IfSome, IsSome, None, OnErr, OnOk, Some, false};
 ghost use Rattle.std.specs.Prelude.{slice_get};
@@ -18,7 +18,8 @@ use step_scheduler::boards::Board;
 use step_scheduler::jobs::Job;
 use step_scheduler::rows::Row;
 
-/// The board of an account of the batch, which has not failed: where memory is wanting, the account ends, and the board is let go.
+/// The board of an account of the batch. It has not failed: if memory runs out, the account ends, and the board is
+/// dropped.
 #[derive(Drop)]
 pub(crate) struct OpenBoard<B: Batch> {
     board: Board,
@@ -28,7 +29,7 @@ pub(crate) struct OpenBoard<B: Batch> {
 }
 
 impl<B: Batch> OpenBoard<B> {
-    /// The board of a job.
+    /// Creates the board of a job.
     pub(crate) fn new(alloc: Global, job: Arc<Job>) -> Result<OpenBoard<B>, AllocError>
         requires { slice_get B.jobs (arc_value job).place ≡ Some (arc_value job) }
         ensures { IfOk result (λ board. board.board.job ≡ arc_value job) }
@@ -40,15 +41,15 @@ impl<B: Batch> OpenBoard<B> {
         })
     }
 
-    /// The place of the board's account.
+    /// Returns the index of the board's account.
     pub(crate) fn place(&self) -> usize
         ensures { result ≡ self.now.board.job.place }
     {
         self.board.job().place()
     }
 
-    /// Keeps a result of the board's account, and pushes all that this makes ready. The row of the account, if the board is
-    /// complete then.
+    /// Stores a result of the board's account, and pushes all tasks that become ready. Returns the row of the account
+    /// if the board is then complete.
     pub(crate) fn go_on<G: Gate>(
         &mut self,
         done: FinishedOf<B>,
@@ -62,7 +63,7 @@ impl<B: Batch> OpenBoard<B> {
         self.row(worker.alloc)
     }
 
-    /// Pushes all that is ready on a worker's deque. The result of what that worker evaluates at once is kept.
+    /// Pushes all ready tasks on a worker's deque. If the worker evaluates a task at once, stores its result.
     pub(crate) fn hand_out<G: Gate>(&mut self, worker: &mut Worker<B, G>) -> Result<(), AllocError>
         ensures same_job { self.new.board.job ≡ self.old.board.job }
         ensures all { OnOk result ((k : ℕ) → IsReady self.new.board.job.set.plan self.new.board.history k → ⊥) }
@@ -74,7 +75,7 @@ impl<B: Batch> OpenBoard<B> {
         Ok(())
     }
 
-    // Keeps the result of a task that was evaluated at once, where there is one.
+    // Stores the result of a task that was evaluated at once, if there is one.
     fn finish_if_done(&mut self, done: Option<FinishedOf<B>>) -> Result<(), AllocError>
         requires { IfSome done (λ done. done.finished.job.place ≡ self.old.board.job.place) }
         ensures same_job { self.new.board.job ≡ self.old.board.job }
@@ -86,11 +87,11 @@ impl<B: Batch> OpenBoard<B> {
         }
     }
 
-    /// Keeps the result of a step that is under way. The result is of this board's job, since both are of the batch and of one
-    /// place.
+    /// Stores the result of a step that is under way. The result is of this board's job, since both are of the batch
+    /// and have the same index.
     ///
-    /// A board refuses only results that it has no use for. It fails just where the result is the mark that there was no memory
-    /// for the value.
+    /// A board rejects only results that it has no use for. Fails only if the result says that there was no memory for
+    /// its value.
     pub(crate) fn finish(&mut self, done: FinishedOf<B>) -> Result<(), AllocError>
         requires { done.finished.job.place ≡ self.old.board.job.place }
         ensures same_job { self.new.board.job ≡ self.old.board.job }
@@ -105,7 +106,8 @@ impl<B: Batch> OpenBoard<B> {
         Ok(())
     }
 
-    /// The row of the board's account, once the board is complete. `None` before that, and then a step can go on.
+    /// Returns the row of the board's account if the board is complete. Before that it returns `None`, and a step can
+    /// go on.
     pub(crate) fn row(&self, alloc: Global) -> Result<Option<RowOf<B>>, AllocError>
         ensures place { IfOk result (λ r. IfSome r (λ row. row.place ≡ self.now.board.job.place)) }
         ensures complete { IfOk result (λ r. IsSome r ↔ IsComplete self.now.board) }

@@ -1,4 +1,4 @@
-//! What a batch gives for each of its accounts.
+//! The outcome of a batch for each of its accounts.
 ghost use Rattle.std.specs.Prelude.{◌≡◌, MatchResult};
 ghost use Rattle.worker_pool.specs.declared.outcomes.Outcome.TheVariants.{Margined, NoMemory};
 
@@ -7,7 +7,7 @@ use std::alloc::AllocError;
 use std::sync::Arc;
 use step_scheduler::rows::Row;
 
-/// What a batch gives for an account.
+/// The outcome of a batch for an account.
 #[derive(Drop)]
 pub enum Outcome {
     /// The account's row.
@@ -17,7 +17,7 @@ pub enum Outcome {
 }
 
 impl Outcome {
-    /// The outcome of an account: its row, or its name where there was no memory for the row.
+    /// Returns the outcome of an account: its row, or its name if there was no memory for the row.
     pub(crate) fn of(account: Name, row: Result<Arc<Row>, AllocError>) -> Outcome
         ensures { MatchResult row (λ row. result ≡ Margined row) (λ _. result ≡ NoMemory account) }
     {

@@ -1,4 +1,4 @@
-//! Batches on one thread: one whole board after another.
+//! Batches on one thread, one complete board after another.
 ghost use Rattle.std.specs.Prelude.{◌≡◌, IfOk};
 ghost use Rattle.std.specs.Arc.{arc_value};
 ghost use Rattle.worker_pool.specs.Batches.{AllFit, FitsSet};
@@ -20,10 +20,10 @@ use step_scheduler::rows::Row;
 use step_scheduler::run_memory::RunMemory;
 use step_scheduler::watches::{NoWatch, Watch};
 
-/// The place in its team of the worker that hands out steps, which is the only one where there are no helpers.
+/// The index in its team of the worker that hands out steps. If there are no helpers, it is the only worker.
 pub(crate) const COORDINATOR: usize = 0;
 
-// The steps of an account, as a gate knows them.
+// The steps of an account, as a gate gets them.
 #[derive(Drop)]
 struct StepsOf<'a, G: Gate> {
     gate: &'a G,
@@ -38,10 +38,10 @@ impl<G: Gate> Watch for StepsOf<'_, G> {
     }
 }
 
-/// Runs of one account after another under a set, on one thread. The set's course is made once, and the runs share the memory that
-/// they work in.
+/// Runs of one account after another under a parameter set, on one thread. The set's course is made once, and the runs
+/// share their working memory.
 ///
-/// Contracts see the set.
+/// The value of this type in contracts is the parameter set.
 #[derive(Drop)]
 pub struct Runs {
     alloc: Global,
@@ -58,7 +58,7 @@ impl Model for Runs {
 }
 
 impl Runs {
-    /// Runs under a set, of which none has begun.
+    /// Creates the runs under a parameter set, before the first run.
     pub fn new(alloc: Global, set: &Arc<CompiledSet>) -> Result<Runs, AllocError>
         ensures { IfOk result (λ runs. runs ≡ arc_value set.now) }
     {
@@ -70,7 +70,8 @@ impl Runs {
         })
     }
 
-    /// The row of an account. The portfolio fits the set's tables. If memory runs out, the next account can still be run.
+    /// Returns the row of an account. The portfolio fits the set's tables. If memory runs out, the next account can
+    /// still be run.
     pub fn row(&mut self, portfolio: Portfolio) -> Result<Arc<Row>, AllocError>
         requires { FitsSet self.old portfolio }
         ensures same { self.new ≡ self.old }
@@ -79,7 +80,7 @@ impl Runs {
         self.watched_row(portfolio, 0, &NoWatch)
     }
 
-    // The row of the account at a place in its batch. The watch is passed for each step.
+    // Returns the row of the account at an index of its batch. Calls the watch for each step.
     fn watched_row<W: Watch>(
         &mut self,
         portfolio: Portfolio,
@@ -96,7 +97,7 @@ impl Runs {
         Row::from_board(self.alloc, board)
     }
 
-    // The outcome of the account at a place in its batch, which passes the gate before each evaluation.
+    // Returns the outcome of the account at an index of its batch. Passes the gate before each evaluation.
     fn outcome<G: Gate>(
         &mut self,
         portfolio: Portfolio,
@@ -119,8 +120,8 @@ impl Runs {
     }
 }
 
-/// The outcomes of accounts under a set, on the coordinator of a team, which passes a gate before each evaluation. All else is as
-/// in [`run_plain`].
+/// Returns the outcomes of accounts under a parameter set, computed on the coordinator of a team, which passes a gate
+/// before each evaluation. Otherwise like [`run_plain`].
 pub(crate) fn run_on_one<G: Gate>(
     alloc: Global,
     set: &Arc<CompiledSet>,
@@ -140,11 +141,11 @@ pub(crate) fn run_on_one<G: Gate>(
     Ok(outcomes)
 }
 
-/// The outcomes of accounts under a set, in their order. The portfolios fit the set's tables.
+/// Returns the outcomes of accounts under a parameter set, in account order. The portfolios fit the set's tables.
 ///
-/// One account runs after another, all steps of it in one call. An account has `NoMemory` where its job, its board or its
-/// row has no memory. The set's course and the list of outcomes are made once for all accounts, and the call fails where they
-/// have no memory.
+/// The accounts run one after another, and all steps of an account run in one call. An account has the outcome
+/// `NoMemory` if there is no memory for its job, its board or its row. The set's course and the list of outcomes are
+/// made once for all accounts. Fails if there is no memory for them.
 pub fn run_plain(
     alloc: Global,
     set: &Arc<CompiledSet>,

@@ -1,4 +1,4 @@
-//! What a worker holds of the result queue of a batch.
+//! A worker's end of the result queue of a batch.
 ghost use Rattle.crossbeam_queue.specs.Passes.{IsPassOf, view};
 ghost use Rattle.std.specs.Prelude.{◌≡◌, ◌<◌, [], IfOk, vec_len};
 ghost use Rattle.worker_pool.specs.Balance.{ALL_PARTS, knows};
@@ -28,7 +28,7 @@ impl<'a, B: Batch> Model for ResultEnd<'a, B> {
     ghost invariant = { λ e. IsPassOf e.queue.now e.pass × ((pass_view e.pass).batch ≡ B.jobs) × (0 < (pass_view e.pass).parts) };
 }
 
-/// The coordinator's end, and one for each helper.
+/// Returns the coordinator's end, and one end for each helper.
 pub(crate) fn open_results<'a, B: Batch>(
     alloc: Global,
     queue: &'a Results<B>,
@@ -50,7 +50,7 @@ pub(crate) fn open_results<'a, B: Batch>(
 }
 
 impl<B: Batch> ResultEnd<'_, B> {
-    /// Adds a result at the back. A result comes back only where the queue was full.
+    /// Adds a result at the back. Returns the result only if the queue was full.
     pub(crate) fn push<R: Wait>(
         &mut self,
         rt: &R,
@@ -62,7 +62,7 @@ impl<B: Batch> ResultEnd<'_, B> {
         }
     }
 
-    /// The result at the front.
+    /// Takes the result at the front.
     pub(crate) fn pop<R: Wait>(&mut self, rt: &R) -> Option<FinishedOf<B>> {
         let finished = pop_result(rt, self.queue, &mut self.pass)?;
         Some(FinishedOf::new(finished))

@@ -2,8 +2,8 @@
 ghost use Rattle.std.specs.Prelude.{◌≡◌, ◌+◌, ◌<◌, ◌≤◌};
 ghost use Rattle.worker_pool.specs.declared.batch.TheConstants.{MAX_WORKERS};
 
-/// Workers that run accounts together. Their numbers are those from `first` on, and all are below 16. Worker 0 of a team is its
-/// coordinator, and the others are its helpers.
+/// Workers that run accounts together. Their numbers go up from `first`, and all are below 16. Worker 0 of a team is
+/// its coordinator, and the others are its helpers.
 #[derive(Clone, Copy, Debug)]
 pub struct Team {
     pub first: usize,
@@ -19,14 +19,14 @@ impl Team {
         workers: 1,
     };
 
-    /// How many helpers the coordinator has.
+    /// Returns the number of helpers.
     pub(crate) fn helpers(&self) -> usize
         ensures { result + 1 ≡ self.now.workers }
     {
         self.workers - 1
     }
 
-    /// The number of a worker of the team.
+    /// Returns the number of a worker of the team.
     pub fn number(&self, worker: usize) -> usize
         requires { worker < self.now.workers }
         ensures own { result ≡ self.now.first + worker }

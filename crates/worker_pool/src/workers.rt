@@ -1,4 +1,4 @@
-//! What each worker of a batch works with, the coordinator among them, and how a helper helps it.
+//! The workers of a batch, including the coordinator, and how a helper helps.
 ghost use Rattle.std.specs.Prelude.{◌≡◌, ◌<◌, IfOk, IfSome};
 ghost use Rattle.worker_pool.specs.declared.batch.TheConstants.{MAX_WORKERS};
 
@@ -13,14 +13,14 @@ use std::sync::atomic::AtomicBool;
 use std::sync::atomic::Ordering::SeqCst;
 use std::time::Clock;
 
-/// The places of a deque at first. A deque grows.
+/// The initial capacity of a deque, in tasks. A deque grows.
 const DEQUE_PLACES: usize = 256;
 
-/// How many tasks a helper steals at once, at most.
+/// The maximum number of tasks that a helper steals at once.
 const MOST_STOLEN: usize = 4;
 
-/// A worker: the number under which it passes the gate, its end of the result queue, a deque of its own, and a thief's end of each
-/// other worker's deque.
+/// A worker: the number under which it passes the gate, its end of the result queue, its own deque, and a thief's end
+/// of each other worker's deque.
 #[derive(Drop)]
 pub(crate) struct Worker<'a, B: Batch, G: Gate> {
     pub(crate) alloc: Global,
@@ -33,7 +33,7 @@ pub(crate) struct Worker<'a, B: Batch, G: Gate> {
 }
 
 impl<'a, B: Batch, G: Gate> Worker<'a, B, G> {
-    /// A worker that has no thief's end yet, and the thieves' ends of its deque, one for each other worker.
+    /// Creates a worker that has no thief's end yet, and the thieves' ends of its deque, one for each other worker.
     pub(crate) fn open(
         alloc: Global,
         gate: &'a G,
@@ -57,14 +57,14 @@ impl<'a, B: Batch, G: Gate> Worker<'a, B, G> {
         Ok((worker, thieves))
     }
 
-    /// The result of a task, evaluated here under the worker's number.
+    /// Evaluates a task here under the worker's number, and returns its result.
     pub(crate) fn evaluate(&self, task: TaskOf<B>) -> FinishedOf<B>
         ensures { result.finished.job ≡ task.task.job }
     {
         task.evaluate(self.alloc, self.gate, self.number)
     }
 
-    /// Pushes a task on the worker's own deque. A task whose push is refused is evaluated here, and its result comes back.
+    /// Pushes a task on the worker's own deque. If the push fails, evaluates the task here and returns its result.
     pub(crate) fn push(&mut self, task: TaskOf<B>) -> Option<FinishedOf<B>>
         ensures { IfSome result (λ done. done.finished.job ≡ task.task.job) }
     {
@@ -74,7 +74,7 @@ impl<'a, B: Batch, G: Gate> Worker<'a, B, G> {
         }
     }
 
-    /// A task of another worker's deque, the first that has one to give.
+    /// Steals a task from the first other worker whose deque gives one.
     pub(crate) fn steal(&mut self) -> Option<TaskOf<B>> {
         for thief in self.thieves.iter_mut() {
             if let Some(task) = thief.steal() {
@@ -84,7 +84,7 @@ impl<'a, B: Batch, G: Gate> Worker<'a, B, G> {
         None
     }
 
-    /// Helps the coordinator until the stop word is set.
+    /// Helps the coordinator until the stop flag is set.
     pub(crate) fn help<R: Wait + Clock>(mut self, rt: &R, stop: &AtomicBool) {
         let mut patience = Patience::of_helper();
         for _ in rt.forever() {
@@ -102,8 +102,9 @@ impl<'a, B: Batch, G: Gate> Worker<'a, B, G> {
         }
     }
 
-    // A task of a helper's own deque. Where there is none, up to four are stolen one by one, and all but the first are pushed on
-    // its own deque. The result of a task whose push is refused is handed in at once.
+    // Returns a task of the helper's own deque. If there is none, up to four are stolen one by one, and all but the
+    // first are pushed on the helper's own deque. If such a push fails, the task is evaluated and its result is handed
+    // in at once.
     fn find_task<R: Wait + Clock>(&mut self, rt: &R, stop: &AtomicBool) -> Option<TaskOf<B>> {
         if let Some(task) = self.own.pop() {
             return Some(task);
@@ -120,7 +121,7 @@ impl<'a, B: Batch, G: Gate> Worker<'a, B, G> {
         Some(first)
     }
 
-    // Hands a result in, trying again while the queue is full and the stop word is not set.
+    // Hands a result in. Repeats the push while the queue is full and the stop flag is not set.
     fn hand_in<R: Wait + Clock>(&mut self, rt: &R, stop: &AtomicBool, done: FinishedOf<B>) {
         let mut patience = Patience::of_helper();
         let mut left = done;
