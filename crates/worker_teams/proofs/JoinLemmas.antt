@@ -7,7 +7,7 @@ use Rattle.worker_pool.proofs.OutcomeLemmas.{outcomes_joined}
 use Rattle.worker_pool.specs.Outcomes.{AreOutcomes}
 use Rattle.worker_pool.specs.declared.outcomes.Outcome.{Outcome}
 
--- two slices of a list of accounts are the whole
+-- outcomes of two slices of a list of accounts, joined, are outcomes of the whole list
 pub slices_joined : (set : SetView) (ps first last : List AccountHoldings) (n : ℕ) (outcomes others : List Outcome)
     → first ≡ take n ps → last ≡ drop n ps → AreOutcomes set first outcomes → AreOutcomes set last others
     → AreOutcomes set ps (outcomes ++ others)

@@ -11,7 +11,7 @@ use Rattle.worker_pool.specs.declared.outcomes.Outcome.{Outcome}
 use Rattle.worker_pool.specs.declared.outcomes.Outcome.TheVariants.{Margined, NoMemory}
 use Rattle.worker_teams.specs.near.OutcomeRows.{rows_of_accounts, AreRows}
 
--- one outcome more
+-- appending an outcome appends its row
 pub rows_more : (outcomes : List Outcome) (rows : List RowView) (row : Arc RowView Global) → AreRows outcomes rows
     → AreRows (outcomes ++ Margined row ∷ []) (rows ++ arc_value row ∷ [])
 rows_more [] [] row all = (refl, tt)
@@ -20,7 +20,7 @@ rows_more (Margined first ∷ outcomes) [] row all = absurd all
 rows_more (Margined first ∷ outcomes) (r ∷ rows) row all = (all.0, rows_more outcomes rows row all.1)
 rows_more (NoMemory account ∷ outcomes) rows row all = absurd all
 
--- the rows of a batch are those of its portfolios
+-- the rows of a batch are the rows of its portfolios
 pub rows_of_batch : (set : SetView) (portfolios : List AccountHoldings) (outcomes : List Outcome) (rows : List RowView)
     → AreOutcomes set portfolios outcomes → AreRows outcomes rows → rows ≡ rows_of_accounts set portfolios
 rows_of_batch set [] [] [] are all = refl

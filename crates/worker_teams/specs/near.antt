@@ -1,2 +1,2 @@
--- What no promise's words stand on: forms near to the code.
+-- Implementation-level forms, which no top-level guarantee uses.
 pub mod OutcomeRows

@@ -4,7 +4,7 @@ ghost use Rattle.worker_pool.specs.declared.batch.TheConstants.{MAX_WORKERS};
 
 use worker_pool::teams::Team;
 
-/// How many workers a batch has, and how many teams they make. The numbers of the workers begin with 0.
+/// The number of workers of a batch, and the number of teams that they make. The numbers of the workers begin with 0.
 #[derive(Clone, Copy)]
 pub(crate) struct Crew {
     pub(crate) workers: usize,
@@ -15,7 +15,7 @@ pub(crate) struct Crew {
 }
 
 impl Crew {
-    /// All workers as one team.
+    /// Returns all workers as one team.
     pub(crate) fn whole(self) -> Team
         ensures first { result.first ≡ 0 }
         ensures all { result.workers ≡ self.workers }
@@ -26,8 +26,8 @@ impl Crew {
         }
     }
 
-    /// The crew without its last team, and that team, which has its part of the workers. Its numbers begin where those of the
-    /// others end, and end with the last of the crew.
+    /// Splits off the last team, which has its share of the workers, and returns the rest of the crew and that team.
+    /// The team's numbers begin where the numbers of the rest end, and end with the last number of the crew.
     pub(crate) fn cut(self) -> (Crew, Team)
         requires { 1 < self.teams }
         ensures teams { result.0.teams + 1 ≡ self.teams }

@@ -1,26 +1,26 @@
-//! Where accounts are cut into slices that cost the same.
+//! How accounts are cut into slices of equal cost.
 ghost use Rattle.std.specs.Prelude.{◌+◌, ◌<◌, ◌≤◌, length};
 
 use span_tables::portfolios::Portfolio;
 
-/// What a held contract costs, counted in steps of the plan.
+/// The cost of a held contract, in steps of the plan.
 const STEPS_OF_A_HOLDING: u64 = 4;
 
-// What an account costs under a plan of so many steps.
+// Returns the cost of an account under a plan with the given number of steps.
 fn weight_of(steps: usize, portfolio: &Portfolio) -> u64 {
     let holdings = portfolio.holdings().len() as u64;
     (steps as u64).saturating_add(holdings.saturating_mul(STEPS_OF_A_HOLDING))
 }
 
-// What accounts cost under a plan of so many steps.
+// Returns the cost of all accounts under a plan with the given number of steps.
 fn weight_of_all(steps: usize, portfolios: &[Portfolio]) -> u64 {
     portfolios.iter().fold(0u64, |weight, portfolio| {
         weight.saturating_add(weight_of(steps, portfolio))
     })
 }
 
-/// The place from which on accounts cost about one part in `teams` of all. Each of the other teams has an account before that
-/// place.
+/// Returns the index at which the last slice begins, so that its accounts cost about one part in `teams` of the whole.
+/// Each of the other teams has an account before that index.
 pub(crate) fn last_slice(steps: usize, portfolios: &[Portfolio], teams: usize) -> usize
     requires some { 0 < teams }
     requires enough { teams ≤ length portfolios.now }

@@ -1,4 +1,4 @@
-//! Batches of accounts that are margined by teams of workers, side by side.
+//! Batches of accounts that are margined by several teams of workers concurrently.
 #![tactic(auto)]
 
 mod crews;

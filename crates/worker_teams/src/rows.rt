@@ -20,7 +20,7 @@ use worker_pool::gates::Gate;
 use worker_pool::outcomes::Outcome;
 use worker_pool::plain::run_plain;
 
-// The rows of all outcomes; out of memory, where an account has none: a statement is whole, or not given.
+// Returns the rows of all outcomes. Fails if an account is out of memory: a statement is complete, or not returned.
 fn all_rows(alloc: Global, outcomes: Vec<Outcome>) -> Result<Vec<Arc<Row>>, AllocError>
     ensures { IfOk result (λ rows. AreRows outcomes.items (map arc_value rows.items)) }
 {
@@ -34,7 +34,7 @@ fn all_rows(alloc: Global, outcomes: Vec<Outcome>) -> Result<Vec<Arc<Row>>, Allo
     Ok(rows)
 }
 
-// The rows of the outcomes of a batch; out of memory, where an account has none.
+// Returns the rows of the outcomes of a batch. Fails if an account is out of memory.
 fn rows_of(alloc: Global, outcomes: Vec<Outcome>) -> Result<Vec<Arc<Row>>, AllocError>
     ensures { (set : SetView) (portfolios : List AccountHoldings) → AreOutcomes set portfolios outcomes.items
         → IfOk result (λ rows. map arc_value rows.items ≡ rows_of_accounts set portfolios) }
@@ -43,8 +43,8 @@ fn rows_of(alloc: Global, outcomes: Vec<Outcome>) -> Result<Vec<Arc<Row>>, Alloc
     Ok(rows)
 }
 
-/// The rows of portfolios under a compiled set, in their order, computed on one thread. Out of memory for one account
-/// refuses all.
+/// Returns the rows of portfolios under a compiled parameter set, in account order, computed on one thread. Fails if
+/// one account is out of memory.
 pub fn rows_alone(
     alloc: Global,
     set: &Arc<CompiledSet>,
@@ -57,8 +57,8 @@ pub fn rows_alone(
     rows_of(alloc, outcomes)
 }
 
-/// The rows of portfolios under a compiled set, in their order, computed on 1 to 16 workers, in teams. Out of memory for one
-/// account refuses all.
+/// Returns the rows of portfolios under a compiled parameter set, in account order, computed on 1 to 16 workers in
+/// teams. Fails if one account is out of memory.
 pub fn rows_together<R: Threads + Wait + Clock + Sync, G: Gate>(
     rt: &R,
     alloc: Global,

@@ -1,4 +1,4 @@
-//! Batches on many workers, in teams: each margins a slice of the accounts in a thread of its own.
+//! Batches on several workers, in teams. Each team margins a slice of the accounts in its own thread.
 ghost use Rattle.std.specs.Arc.{arc_value};
 ghost use Rattle.std.specs.Prelude.{◌≡◌, ◌<◌, ◌≤◌, ◌⊎◌, ◌↔◌, Err, IfOk, vec_len};
 ghost use Rattle.worker_pool.specs.Batches.{AllFit};
@@ -19,8 +19,8 @@ use worker_pool::gates::Gate;
 use worker_pool::outcomes::Outcome;
 use worker_pool::teams::Team;
 
-// The outcomes of a slice, by a team, whose workers pass the gate under their numbers. The team counts holds on a set of its own,
-// and so waits for no other.
+// Returns the outcomes of a slice, computed by a team whose workers pass the gate under their numbers. The team counts
+// references to its own copy of the parameter set, and so waits for no other team.
 fn run_team<R: Threads + Wait + Clock + Sync, G: Gate>(
     rt: &R,
     alloc: Global,
@@ -36,8 +36,9 @@ fn run_team<R: Threads + Wait + Clock + Sync, G: Gate>(
     run_by_team(rt, alloc, &own, slice, team, gate)
 }
 
-// The outcomes of accounts by a crew: the last slice by a team in a thread of its own, the slices before it by the other teams,
-// begun in this thread. Where no thread is started, this thread runs the last slice afterwards.
+// Returns the outcomes of accounts, computed by a crew. A team in its own thread runs the last slice, and the other
+// teams, started from this thread, run the slices before it. If no thread starts, this thread runs the last slice
+// afterwards.
 #[cycle(slices)]
 fn run_slices<R: Threads + Wait + Clock + Sync, G: Gate>(
     rt: &R,
@@ -74,11 +75,13 @@ fn run_slices<R: Threads + Wait + Clock + Sync, G: Gate>(
     Ok(outcomes)
 }
 
-/// The outcomes of accounts under a set, in their order, on 1 to 16 workers. The portfolios fit the set's tables.
+/// Returns the outcomes of accounts under a parameter set, in account order, computed on 1 to 16 workers. The
+/// portfolios fit the set's tables.
 ///
-/// There are as many teams as workers, or as accounts where these are fewer. Each team runs a slice of the accounts as
-/// [`run_batch`] does, all at once, the first in the thread that called. What `run_batch` refuses is refused; each team also
-/// takes memory for a set of its own. The workers of a batch have numbers from 0 on, each a number of its own.
+/// There are as many teams as workers, or as accounts if there are fewer accounts. Each team runs a slice of the
+/// accounts as [`run_batch`] does. All teams run concurrently, the first in the calling thread. Rejects what
+/// `run_batch` rejects. Each team also needs memory for its own copy of the parameter set. The workers of a batch have
+/// numbers from 0 on, each its own.
 pub fn run_in_teams<R: Threads + Wait + Clock + Sync, G: Gate>(
     rt: &R,
     alloc: Global,

@@ -4,7 +4,8 @@ ghost use Rattle.std.specs.Prelude.{◌∷◌, [], codes};
 ghost use Rattle.worker_pool.specs.Outcomes.{AreOutcomes};
 ghost use Rattle.worker_pool.specs.declared.outcomes.Outcome.TheVariants.{NoMemory};
 
-// The outcomes of two accounts in their order; exchanged, they are not those of the accounts.
+// States that the outcomes of two accounts in their order are outcomes of the accounts, and that in exchanged order
+// they are not.
 fn outcomes_of_two_accounts()
     ensures in_order { (set : SetView) → AreOutcomes set
         (record { account = codes "X"; holdings = [] } ∷ record { account = codes "B"; holdings = [] } ∷ [])

@@ -1,4 +1,4 @@
--- The rows of portfolios under a set, and of the outcomes of a batch.
+-- The rows of portfolios under a parameter set, and the rows of the outcomes of a batch.
 use Rattle.std.specs.Prelude.{List, map, ◌≡◌, ⊤, [], ◌∷◌}
 use Rattle.span_tables.specs.Net.{AccountHoldings}
 use Rattle.plan_compiler.specs.Compiled.{SetView}
@@ -7,7 +7,7 @@ use Rattle.std.specs.Arc.{arc_value}
 use Rattle.worker_pool.specs.declared.outcomes.Outcome.{Outcome}
 use Rattle.worker_pool.specs.declared.outcomes.Outcome.TheVariants.{Margined, NoMemory}
 
--- the row of each portfolio under a set
+-- the row of each portfolio under a parameter set
 abbrev pub rows_of_accounts : SetView → List AccountHoldings → List RowView
 rows_of_accounts set portfolios = map (λ p. record { set = set; portfolio = p }) portfolios
 
