@@ -1,4 +1,4 @@
--- What the lines of a commodity show of accepted files lies within limits.
+-- For accepted files, the values in the lines of a commodity are within limits.
 use Rattle.std.proofs.Common.{◌≡◌, ℕ, zero, suc, ◌+◌, ◌-◌, ◌*◌, ◌%◌, ◌<◌, ◌≤◌, Bool, true, false, cond, List, [], ◌∷◌, length, refl, arith}
 use Rattle.std.proofs.Common.{◌^◌, ap, get_or, nat_abs}
 use Rattle.std.specs.Prelude.{All, None, Some, ℤ, pos, negsuc, ◌==◌, nat_lt, unwrap_or}
@@ -39,7 +39,7 @@ use Rattle.reasons.proofs.FigureLaws.{active_shown}
 use Rattle.reasons.proofs.SmallLaws.{AreSmallRests, IsSmallInter, IsSmallIntra, IsSmallMonth, IsSmallSpot, inters_small, intras_small}
 use Rattle.reasons.proofs.SmallLaws.{months_small, rests_are, spots_small}
 
--- the state of each number is one, also of a number that no commodity has
+-- the state of each index is a commodity state, also for an index without a commodity
 each_state : (states : List CommodityState) → All IsCommodityState states → (k : ℕ) → IsCommodityState (state_at states k)
 each_state [] all k = loaded_state (pos 0) 0 (omega arith) (omega arith)
 each_state (state ∷ states) all zero = All-head IsCommodityState state states all
@@ -55,7 +55,7 @@ active_if : (b : Bool) (a n : ℕ) → nat_lt a n ≡ b → unwrap_or (cond b (S
 active_if true a n e = let lt : a < n = grind (arith, nat_tests, e) in omega (arith, lt)
 active_if false a n e = omega arith
 
--- the active scenario is one of the sums' numbers, and the paired one stands beside it
+-- the active scenario is the number of a scenario sum, and the paired scenario is next to it
 pub active_few : (sums : List ℤ) → active_scenario sums ≤ length sums + 1
 active_few sums =
     let at = active_if (nat_lt (position_or_len (is_largest sums) sums) (length sums)) (position_or_len (is_largest sums) sums)
@@ -76,12 +76,12 @@ sixteen held = length-map-range_with_len (scenario_sum held) 1 16
 
 -- ---- states
 
--- the rest of a commodity is no larger than its net delta
+-- the residual delta of a commodity is no larger than its net delta
 rest_small : (state : CommodityState) → IsCommodityState state → nat_abs state.rest ≤ MAX_UNITS
 rest_small state is =
     omega (arith, parts_size state.rest, parts_size state.net, is.rest.long, is.rest.short, is.net)
 
--- short calls and short puts
+-- the number of short calls and short puts together is within its limit
 counts_small : (held : List HeldContract) → AreHeld held
     → short_count is_call held + short_count is_put held ≤ MAX_RATE * (MAX_HELD * MAX_NET)
 unfolding minimum_of
@@ -171,7 +171,7 @@ module _ (t : AcceptedTables) (holdings : List Holding) (ok : AreAccepted t hold
       (All-cons Few f.minimum (f.requirement ∷ []) (omega (arith, minimum))
       (All-cons Few f.requirement [] (omega (arith, requirement)) (All-nil Few)))))))
 
--- the total of an account
+-- the total of an account is below 10^63
 pub total_is_small : (t : AcceptedTables) (holdings : List Holding) → AreAccepted t holdings
     → nat_abs (total_to t holdings (length t.commodities)) < 10 ^ 63
 unfolding total_to
@@ -185,7 +185,7 @@ total_is_small t holdings ok =
     let same : length (range_with_len 0 n) * MAX_REQUIREMENT ≡ n * MAX_REQUIREMENT = ap (λ k. k * MAX_REQUIREMENT) long in
     omega (arith, all, same, few)
 
--- the option value of an account
+-- the option value of an account is below 10^63
 pub value_is_small : (t : AcceptedTables) (holdings : List Holding) → AreAccepted t holdings
     → nat_abs (value_to t holdings (length t.commodities)) < 10 ^ 63
 unfolding value_to

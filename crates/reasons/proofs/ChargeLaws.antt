@@ -36,7 +36,7 @@ shown_if true n rate s e is =
     let none : n ≡ 0 = grind (arith, nat_tests, e) in sym (ap (λ k. k * rate) none ∙ zero-mul rate)
 shown_if false n rate s e is = let all = sum_by-cons shown_intra_charge s [] in omega (arith, all, is)
 
--- what is shown of a spread in a direction is charged in full
+-- the charge shown for a spread in a direction is the number of spreads times the rate
 charge_in : (s : Intra) (d : Direction) (n : ℕ) → sum_by shown_intra_charge (intra_in s d n) ≡ n * s.rate
 charge_in s d n =
     shown_if (n == 0) n s.rate (record { priority = s.priority; direction = d; formed = n; rate = s.rate }) refl refl
@@ -49,7 +49,7 @@ charge_ways s f =
     let both = add-mul f.a_long f.a_short s.rate in
     omega (arith, all, long, short, both)
 
--- the charge after some spreads is what was charged before, more by what is shown of them
+-- the charge after some spreads is the charge before them plus the charges shown for them
 charges_shown : (spreads : List Intra) (t : TierRests)
     → (fold spread_both_ways t spreads).charge ≡ t.charge + sum_by shown_intra_charge (intras_shown spreads t)
 charges_shown [] t = omega arith
@@ -98,7 +98,7 @@ module _ (deltas rests : List MonthUnits) (shrinks : Shrinks deltas rests) where
       omega (arith, a, b)
   spot_if false s spots e = sum_by-cons shown_spot_charge (shown s) (map shown spots)
 
-  -- what is charged of all spot months is charged of those that are shown
+  -- the sum of the charges of all spot months is the sum over the spot months shown
   spots_charged : (spots : List Spot) → sum_by (stage.spot_charge deltas rests) spots
       ≡ sum_by shown_spot_charge (spots_shown deltas rests spots)
   spots_charged [] = refl

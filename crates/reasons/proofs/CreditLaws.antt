@@ -1,4 +1,4 @@
--- The net delta, the price risk and the weight of a commodity follow from its months, its scan and its spreads shown.
+-- The net delta, price risk and weight of a commodity follow from the months, the scan and the spreads shown.
 use Rattle.std.proofs.Common.{◌≡◌, ℕ, ◌+◌, ◌*◌, ◌<◌, Bool, true, false, cond, List, [], ◌∷◌, length, refl, sym}
 use Rattle.std.proofs.Common.{ap, ◌∙◌, arith, filter, subst, sum_by}
 use Rattle.std.specs.Prelude.{All, Some, ◌==◌, ℤ, ◌+ℤ◌, find, fold, option_map, pos}
@@ -55,7 +55,7 @@ shown_if true n ratio bp s e is =
     sym (ap (λ k. k * ratio * bp) none ∙ ap (λ k. k * bp) (zero-mul ratio) ∙ zero-mul bp)
 shown_if false n ratio bp s e is = let all = sum_by-cons weight_of s [] in omega (arith, all, is)
 
--- what is shown of a spread in a direction has its whole weight
+-- the weight shown for a spread in a direction is its whole weight
 weight_in : (s : Inter) (ratio : ℕ) (d : Direction) (n : ℕ)
     → sum_by weight_of (inter_in s ratio d n) ≡ n * ratio * s.basis_points
 weight_in s ratio d n =
@@ -87,7 +87,7 @@ module _ (s : Inter) (f : SpreadsFormed) (c : ℕ) where
   passed_if true leg legs e = cc
   passed_if false leg legs e = refl
 
-  -- no leg behind one of the commodity is of it
+  -- if a leg is in the commodity, no leg after it is
   none_behind : (leg : CommodityLeg) (legs : List CommodityLeg) → leg.commodity ≡ c
       → list_any (λ other. leg.commodity == other.commodity) legs ≡ false → filter is_leg legs ≡ []
   none_behind leg [] same apart = refl
@@ -112,7 +112,7 @@ module _ (s : Inter) (f : SpreadsFormed) (c : ℕ) where
       omega (arith, one, all, none)
   leg_if false leg legs e apart rest = rest
 
-  -- what is shown of a spread has the weight that its legs of the commodity add
+  -- the weight shown for a spread is the weight that its legs in the commodity add
   weight_legs : (legs : List CommodityLeg) → has_repeat (λ a b. a.commodity == b.commodity) legs ≡ false
       → sum_by weight_of (inter_ways s f (ratio_in c legs)) ≡ sum_by part (filter is_leg legs)
   weight_legs [] apart = refl
@@ -122,7 +122,7 @@ module _ (s : Inter) (f : SpreadsFormed) (c : ℕ) where
       leg_if (leg.commodity == c) leg legs refl (or_left (list_any alike legs) others apart)
       (weight_legs legs (or_right (list_any alike legs) others apart))
 
--- the weight after some spreads is what it was before, more by what is shown of them
+-- the weight after some spreads is the weight before them plus the weights shown for them
 weights_shown : (n c : ℕ) (spreads : List Inter) (states : List CommodityState) → c < length states → All (IsInter n) spreads
     → (state_at (fold inter_both_ways states spreads) c).weight
     ≡ (state_at states c).weight + sum_by weight_of (inters_shown c spreads states)

@@ -1,4 +1,4 @@
--- What the fields of lines are read as, and the sums of what is read.
+-- The values that the fields of lines are read as, and the sums of these values.
 use Rattle.std.proofs.Common.{◌≡◌, ℕ, suc, ◌+◌, ◌/◌, ◌%◌, ◌^◌, ◌<◌, Bool, true, false, cond, List, [], ◌∷◌, ◌++◌, filter, map, refl, sym}
 use Rattle.std.proofs.Common.{ap, ◌∙◌, arith, sum_by}
 use Rattle.std.specs.Prelude.{All, fold, ℤ, pos, negsuc, ◌+ℤ◌, nat_abs}
@@ -24,7 +24,7 @@ unfolding exact_decimal
 signed_text (pos n) = whole_text n
 signed_text (negsuc n) = ap (λ ds. 45 ∷ ds) (whole_text (suc n))
 
--- a whole number is read as what it was written of
+-- reading a written whole number gives this number
 pub whole_read : (z : ℤ) → nat_abs z < 10 ^ 64 → exact_value 0 (signed_decimal z) ≡ z
 whole_read z small = ap (exact_value 0) (signed_text z) ∙ exact_read_back 0 z small
 
@@ -32,7 +32,7 @@ pub count_read : (n : ℕ) → n < 10 ^ 64 → exact_value 0 (decimal n) ≡ pos
 unfolding exact_decimal
 count_read n small = ap (exact_value 0) (whole_text n) ∙ exact_read_back 0 (pos n) small
 
--- whole numbers, one after the other
+-- reading a list of written whole numbers gives these numbers
 pub wholes_read : (zs : List ℤ) → All (λ z. nat_abs z < 10 ^ 64) zs → map (exact_value 0) (map signed_decimal zs) ≡ zs
 wholes_read [] small = refl
 wholes_read (z ∷ zs) small =
@@ -40,9 +40,9 @@ wholes_read (z ∷ zs) small =
     let rest = wholes_read zs (All-tail (λ x. nat_abs x < 10 ^ 64) z zs small) in
     λ k. whole_read z first k ∷ rest k
 
--- ---- one after the other
+-- ---- lists of lines
 
--- what is read of lines is what they were written of
+-- reading written lines gives the values that were written
 pub each_read : {A B C : Type 0} (write : A → B) (read : B → C) (is : A → C) (xs : List A) → All (λ x. read (write x) ≡ is x) xs
     → map read (map write xs) ≡ map is xs
 each_read write read is [] same = refl
@@ -51,7 +51,7 @@ each_read write read is (x ∷ xs) same =
     let rest = each_read write read is xs (All-tail (λ y. read (write y) ≡ is y) x xs same) in
     λ k. first k ∷ rest k
 
--- the lines that pass a test are what passes it before it is written
+-- filtering written lines is the same as filtering the values before they are written
 pub kept_written : {A B : Type 0} (p : B → Bool) (write : A → B) (xs : List A)
     → filter p (map write xs) ≡ map write (filter (λ x. p (write x)) xs)
 kept_written p write [] = refl
@@ -65,7 +65,7 @@ kept_written p write (x ∷ xs) =
 
 -- ---- sums
 
--- the sums of what is the same of each
+-- two sums are equal if their terms are equal
 pub sum_same : {A : Type 0} (f g : A → ℤ) (a : ℤ) (xs : List A) → All (λ x. f x ≡ g x) xs
     → fold (λ z x. z +ℤ f x) a xs ≡ fold (λ z x. z +ℤ g x) a xs
 sum_same f g a [] same = refl
@@ -74,7 +74,7 @@ sum_same f g a (x ∷ xs) same =
     ap (λ z. fold (λ s y. s +ℤ f y) (a +ℤ z) xs) first
     ∙ sum_same f g (a +ℤ g x) xs (All-tail (λ y. f y ≡ g y) x xs same)
 
--- the sum of what is read of lines is that of what they were written of
+-- the sum of the values read from lines is the sum of the values that were written
 pub sum_read : {A : Type 0} (write : A → Line) (read : Line → ℤ) (is : A → ℤ) (xs : List A) → All (λ x. read (write x) ≡ is x) xs
     → int_sum_by read (map write xs) ≡ int_sum_by is xs
 sum_read write read is xs same =
@@ -85,6 +85,6 @@ counts_from : {A : Type 0} (n : A → ℕ) (a : ℕ) (xs : List A)
 counts_from n a [] = refl
 counts_from n a (x ∷ xs) = counts_from n (a + n x) xs
 
--- a sum of numbers from 0 on
+-- a sum of natural numbers is the same over the integers
 pub sum_of_counts : {A : Type 0} (n : A → ℕ) (xs : List A) → int_sum_by (λ x. pos (n x)) xs ≡ pos (sum_by n xs)
 sum_of_counts n xs = counts_from n 0 xs

@@ -1,4 +1,4 @@
--- What the figures of a commodity are of the lines that its explanation shows.
+-- How the figures of a commodity follow from the lines of its explanation.
 use Rattle.std.proofs.Common.{◌≡◌, ◌*◌, ℕ, List, refl, ap}
 use Rattle.std.specs.Prelude.{None, Some, option_map, pos, slice_get, unwrap_or}
 use Rattle.span_tables.specs.Tables.{AcceptedTables}
@@ -15,7 +15,7 @@ use Rattle.plan_ir.specs.Figures.{commodity_at, figures_of, held_at, inter_state
 use Rattle.reasons.specs.Laws.{counted}
 use Rattle.reasons.specs.Reasons.{state_after_all}
 
--- the credit of a commodity is that of its line
+-- the credit at an index is the credit of the state at that index
 credit_at-state : (states : List CommodityState) (c : ℕ) → credit_at states c ≡ credit_of (state_at states c)
 unfolding credit_of
 credit_at-state states c =
@@ -24,7 +24,7 @@ credit_at-state states c =
       | None ↦ refl
     ]
 
--- the count of short options is that of its calls and its puts
+-- the count of short options follows from the numbers of short calls and short puts
 counted_shown : (m : MinimumMethod) (held : List HeldContract)
     → short_options m held ≡ counted m (short_count is_call held) (short_count is_put held)
 counted_shown method.Sum held = refl

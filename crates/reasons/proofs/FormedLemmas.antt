@@ -1,4 +1,4 @@
--- How many spreads form, and what is shown of them, one spread after another.
+-- The number of spreads that form, and what is shown of them, one record after another.
 use Rattle.std.proofs.Common.{◌≡◌, ℕ, ◌+◌, ◌<◌, List, [], ◌∷◌, ◌++◌, length, take, get_or, refl, sym, ap, ◌∙◌}
 use Rattle.std.proofs.Common.{append_assoc, arith, flat_map}
 use Rattle.std.specs.List.{zip}
@@ -18,7 +18,7 @@ use Rattle.reasons.specs.Shown.{inter_ways, inters_shown, intra_ways, intras_sho
 use Rattle.reasons.specs.near.Stages.{inters_formed}
 use Rattle.reasons.specs.declared.shown.ShownInter.{ShownInter}
 
--- a fold one step further along a list
+-- one more step of a fold over a prefix of a list
 pub fold_step : {S A : Type 0} (f : S → A → S) (start now next : S) (xs : List A) (i : ℕ) (x : A) → i < length xs
     → x ≡ get_or xs i x → next ≡ f now x → now ≡ fold f start (take i xs) → next ≡ fold f start (take (i + 1) xs)
 fold_step f start now next xs i x lt at step so_far =
@@ -35,7 +35,7 @@ intras_shown-push (x ∷ spreads) s t =
     ap (λ others. first ++ others) (intras_shown-push spreads s next)
     ∙ sym (append_assoc first (intras_shown spreads next) last)
 
--- what is shown of the first spreads of a list, and of the next
+-- the spreads shown for a prefix of the list, extended by the next spread
 pub intras_shown_more : (spreads : List Intra) (i : ℕ) (s : Intra) (t : TierRests) → i < length spreads
     → s ≡ get_or spreads i s
     → intras_shown (take i spreads) t ++ intra_ways s (months.formed_both (fold spread_both_ways t (take i spreads)) s)
@@ -52,7 +52,7 @@ inters_formed-push [] s states = refl
 inters_formed-push (x ∷ spreads) s states =
     ap (λ fs. commodities.inter_formed_both states x ∷ fs) (inters_formed-push spreads s (inter_both_ways states x))
 
--- how many the first spreads of a list form, and the next
+-- the numbers of spreads formed for a prefix of the list, extended by the next spread
 pub inters_formed_more : (spreads : List Inter) (i : ℕ) (s : Inter) (states : List CommodityState) → i < length spreads
     → s ≡ get_or spreads i s
     → inters_formed (take i spreads) states ++ commodities.inter_formed_both (fold inter_both_ways states (take i spreads)) s ∷ []
@@ -62,11 +62,11 @@ inters_formed_more spreads i s states lt at =
     ∙ ap (λ x. inters_formed (take i spreads ++ x ∷ []) states) at
     ∙ ap (λ xs. inters_formed xs states) (sym (take_more spreads i s lt))
 
--- the lines of a spread that formed so many, in the commodity of a number
+-- what is shown of a spread, with the numbers that formed, in the commodity of index c
 abbrev pub ways_in : ℕ → Inter × SpreadsFormed → List ShownInter
 ways_in c p = inter_ways p.0 p.1 (ratio_in c (p.0).legs)
 
--- what is shown of the spreads is that of each beside what it formed
+-- the spreads shown follow from the list of spreads, each paired with the numbers that formed
 pub inters_shown-zip : (c : ℕ) (spreads : List Inter) (states : List CommodityState)
     → flat_map (ways_in c) (zip spreads (inters_formed spreads states)) ≡ inters_shown c spreads states
 inters_shown-zip c [] states = refl
@@ -74,7 +74,7 @@ inters_shown-zip c (s ∷ spreads) states =
     ap (λ others. inter_ways s (commodities.inter_formed_both states s) (ratio_in c s.legs) ++ others)
     (inters_shown-zip c spreads (inter_both_ways states s))
 
--- the lines of the next spread, beside what it formed
+-- the spreads shown for a prefix of the pairs, extended by the next pair
 pub ways_more : (c : ℕ) (spreads : List Inter) (formed : List SpreadsFormed) (i : ℕ) (s : Inter) (f : SpreadsFormed)
     → i < length spreads → i < length formed → s ≡ get_or spreads i s → f ≡ get_or formed i f
     → flat_map (ways_in c) (take i (zip spreads formed)) ++ ways_in c (s, f)

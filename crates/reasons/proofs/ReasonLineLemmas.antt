@@ -16,24 +16,24 @@ use Rattle.reasons.specs.Shown.{months_shown}
 use Rattle.reasons.specs.declared.shown.ShownMonth.{ShownMonth}
 use Rattle.reasons.specs.near.Fields.{reason_text, reasons_text}
 
--- some lines and then others
+-- appending one list of lines and then another appends their concatenation
 pub lines-append : (ids : List Field) (old : List ℕ) (a b : List Line)
     → (old ++ reasons_text ids a) ++ reasons_text ids b ≡ old ++ reasons_text ids (a ++ b)
 lines-append ids old a b =
     append_assoc old (reasons_text ids a) (reasons_text ids b)
     ∙ ap (λ t. old ++ t) (sym (flat_map-append (reason_text ids) a b))
 
--- the lines of some things, and then of others
+-- appending the lines of one list of items and then of another appends the lines of the joined list
 pub lines-of-append : {A : Type 0} (f : A → Line) (ids : List Field) (old : List ℕ) (xs ys : List A)
     → (old ++ reasons_text ids (map f xs)) ++ reasons_text ids (map f ys) ≡ old ++ reasons_text ids (map f (xs ++ ys))
 lines-of-append f ids old xs ys =
     lines-append ids old (map f xs) (map f ys) ∙ ap (λ rs. old ++ reasons_text ids rs) (sym (map-append f xs ys))
 
--- a line by itself is a list of one
+-- appending one line is appending a list of one line
 pub one_line : (ids : List Field) (old : List ℕ) (r : Line) → old ++ reason_text ids r ≡ old ++ reasons_text ids (r ∷ [])
 one_line ids old r = ap (λ t. old ++ t) (sym (append-nil (reason_text ids r)))
 
--- a list of lines with one more
+-- the lines of a list, extended by the line of one more item
 pub line_more : {A : Type 0} (f : A → Line) (ids : List Field) (xs : List A) (x : A) (old now next : List ℕ)
     → next ≡ now ++ reason_text ids (f x) → now ≡ old ++ reasons_text ids (map f xs)
     → next ≡ old ++ reasons_text ids (map f (xs ++ x ∷ []))
@@ -42,7 +42,7 @@ line_more f ids xs x old now next step so_far =
     ∙ flat_map_more (reason_text ids) old (map f xs) (f x)
     ∙ ap (λ rs. old ++ reasons_text ids rs) (sym (map-append f xs (x ∷ [])))
 
--- the line of the next one of a list
+-- the lines of a prefix of a list, extended by the line of the next item
 pub lines_more : {A : Type 0} (f : A → Line) (ids : List Field) (xs : List A) (i : ℕ) (old now next : List ℕ) → i < length xs
     → IfSome (slice_get xs i) (λ x. next ≡ now ++ reason_text ids (f x))
     → now ≡ old ++ reasons_text ids (map f (take i xs)) → next ≡ old ++ reasons_text ids (map f (take (i + 1) xs))
@@ -58,7 +58,7 @@ lines_more f ids xs i old now next lt step so_far =
       | inr none ↦ absurd (omega (arith, lt, none.0))
     ]
 
--- the line of the next month, which its rest stands beside
+-- the lines of a prefix of the months, extended by the next month, whose residual delta has the same index
 pub month_more : (deltas rests : List MonthUnits) (i : ℕ) (m r : MonthUnits) (ids : List Field) (old now next : List ℕ) → MonthsRise deltas
     → Shrinks deltas rests → i < length deltas → m ≡ get_or deltas i m → r ≡ get_or rests i r
     → next ≡ now ++ reason_text ids (month_reason (record { month = m.month; delta = m.units; left = r.units }))

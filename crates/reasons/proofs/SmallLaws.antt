@@ -38,7 +38,7 @@ use Rattle.reasons.specs.declared.shown.ShownIntra.{ShownIntra}
 use Rattle.reasons.specs.declared.shown.ShownMonth.{ShownMonth}
 use Rattle.reasons.specs.declared.shown.ShownSpot.{ShownSpot}
 
--- what is shown where a number is more than 0
+-- an item that is shown only if a number is more than 0 has P if it has P for such a number
 pub in_if : {A : Type 0} (P : A → Type 0) (b : Bool) (n : ℕ) (x : A) → (n == 0) ≡ b → (0 < n → P x) → All P (cond b [] (x ∷ []))
 in_if P true n x e is = All-nil P
 in_if P false n x e is = All-cons P x [] (is (grind (arith, nat_tests, e))) (All-nil P)
@@ -116,7 +116,7 @@ intra_in_small s d n few rate =
     in_if IsSmallIntra (n == 0) n (record { priority = s.priority; direction = d; formed = n; rate = s.rate }) refl
     (λ some. record { some = some; formed = few; rate = rate })
 
--- what is formed in a direction, and what is left then, is no more than there was
+-- the delta that forms in a direction, and the delta left then, are no more than the delta before
 formed_fits : (s : Intra) (d : Direction) (rests : List MonthUnits) (most : ℕ) → IsIntra s → AreMonths rests
     → spreads_formed (tier_rooms d s.legs rests)
     + total_size (rests_after d (spreads_formed (tier_rooms d s.legs rests)) s.legs rests) ≤ total_size rests
@@ -134,7 +134,7 @@ intra_ways_small s t is are =
     (intra_in_small s ALong n (omega (arith, first, are.small)) is.rate)
     (intra_in_small s AShort (spreads_formed (tier_rooms AShort s.legs after)) (omega (arith, second, less.small)) is.rate)
 
--- rests of tiers are months
+-- residual deltas of tiers are month deltas
 pub rests_are : (t : TierRests) → AreTierRests t → AreMonths t.rests
 rests_are t are = record { rise = are.rise; small = omega (arith, are.small) }
 
@@ -171,7 +171,7 @@ inter_in_small s leg d n fits points =
     (record { priority = s.priority; direction = d; formed = n; used = n * leg.ratio; basis_points = s.basis_points }) refl
     (λ some. record { some = some; formed = few; used = fits.used; basis_points = points })
 
--- what is found is one of all that pass the test
+-- an element that is found has P if every element that passes the test has P
 pub found_has : {A : Type 0} (P : A → Type 0) (p : A → Bool) (xs : List A) (x : A) → find p xs ≡ Some x
     → All (λ y. p y ≡ true → P y) xs → P x
 found_has P p [] x e all = cc
@@ -189,7 +189,7 @@ found_has P p (y ∷ ys) x e all =
 pub found_is : {A : Type 0} (P : A → Type 0) (p : A → Bool) (xs : List A) (x : A) → find p xs ≡ Some x → All P xs → P x
 found_is P p xs x e all = found_has P p xs x e (λ k d lt passes. all k d lt)
 
--- the rests of all commodities are within their limit
+-- the residual deltas of all commodities are within their limit
 abbrev pub AreSmallRests : List CommodityState → Type 0
 AreSmallRests states = (k : ℕ) → nat_abs (state_at states k).rest ≤ MAX_UNITS
 
@@ -206,7 +206,7 @@ rest_same [] k = refl
 rest_same (state ∷ states) zero = refl
 rest_same (state ∷ states) (suc k) = rest_same states k
 
--- what a spread forms in a direction fits each of its legs
+-- the number of spreads that form in a direction fits each of the legs
 legs_fit : (s : Inter) (d : Direction) (states : List CommodityState) → IsInter (length states) s → AreSmallRests states
     → All (FitsLeg (inter_formed_in s d states)) s.legs
 legs_fit s d states is small k leg lt =

@@ -1,4 +1,4 @@
--- Each spread has its lines, of as many as it forms from what the spreads before it left.
+-- Each spread has its lines, with the number of spreads that form from what the spreads before it left.
 use Rattle.std.proofs.Common.{◌≡◌, ℕ, zero, suc, List, [], ◌∷◌, ◌++◌, take, Some, sym, ap, ◌∙◌, append_assoc}
 use Rattle.std.specs.Prelude.{fold, slice_get}
 use Rattle.span_tables.specs.declared.records.Inter.{Inter}
@@ -11,7 +11,7 @@ use Rattle.inter_credit.specs.declared.commodity_state.CommodityState.{Commodity
 use Rattle.reasons.specs.Laws.{StandsIn}
 use Rattle.reasons.specs.Shown.{inter_ways, inters_shown, intra_ways, intras_shown, ratio_in}
 
--- what stands in a list stands in it behind others, too
+-- a list contained in another is still contained in it after others are put in front
 stands_behind : {A : Type 0} (others part whole : List A) → StandsIn part whole → StandsIn part (others ++ whole)
 stands_behind others part whole (before, (behind, is)) =
     (others ++ before, (behind, ap (λ xs. others ++ xs) is ∙ sym (append_assoc others before (part ++ behind))))

@@ -1,4 +1,4 @@
--- The reasons of a commodity are those of its stages.
+-- The reasons of a commodity are the lines of its stages.
 use Rattle.std.proofs.Common.{◌≡◌, ℕ, ◌<◌, List, [], ◌∷◌, ◌++◌, length, map, get_or, refl, sym, ap, ◌∙◌, append_assoc}
 use Rattle.std.specs.Prelude.{Some, fold, pos, slice_get, unwrap_or}
 use Rattle.std.proofs.lemmas.Option.{slice_get-get_or}
@@ -31,7 +31,7 @@ use Rattle.reasons.proofs.ReasonLineLemmas.{lines-append, one_line}
 regrouped : (a b c d e f : List Line) → ((((a ++ b) ++ c) ++ d) ++ e) ++ f ≡ a ++ (b ++ (c ++ ((d ++ e) ++ f)))
 regrouped a b c d e f = simp append_assoc refl
 
--- the lines of a commodity's months, from what the code has of each part
+-- the lines of a commodity's months follow from what the code appends for each part
 pub month_reasons_are : (t : AcceptedTables) (holdings : List Holding) (c : ℕ) (ids : List Field) (o o1 o2 o3 : List ℕ)
     (months : List MonthUnits) (begun tiers : TierRests) (spreads : List Intra) (shown : List ShownIntra)
     (spots : List Spot)
@@ -55,7 +55,7 @@ month_reasons_are t holdings c ids o o1 o2 o3 months begun tiers spreads shown s
     ∙ (λ k. o ++ reasons_text ids (map month_reason (months_shown (m k) (after k).rests)
     ++ (map intra_reason (formed k) ++ map spot_reason (spots_shown (m k) (after k).rests (sp k)))))
 
--- all lines of a commodity, from those of its parts
+-- all lines of a commodity follow from the lines of its parts
 pub reasons_are : (t : AcceptedTables) (holdings : List Holding) (c : ℕ) (ids : List Field) (o o1 o2 o3 o4 o5 o6 : List ℕ)
     (held : List HeldContract) (spreads : List Inter) (state : CommodityState) (commodity : Commodity)
     → held ≡ held_at t holdings c → spreads ≡ inters_of t → state ≡ state_after_all t holdings c
@@ -98,7 +98,7 @@ reasons_are t holdings c ids o o1 o2 o3 o4 o5 o6 held spreads state commodity h 
     d6 ∙ ap (λ x. x ++ text six) u5 ∙ lines-append ids o ((((one ++ two) ++ three) ++ four) ++ five) six in
     u6 ∙ ap (λ rs. o ++ text rs) (regrouped one two three four five six)
 
--- a line that is read is the one at its place
+-- a state that is read from the list is the one at its index
 pub state_read : (states : List CommodityState) (i : ℕ) (state : CommodityState) → i < length states → state ≡ get_or states i state
     → state ≡ state_at states i
 state_read states i state lt at =

@@ -1,4 +1,4 @@
--- A commodity of which nothing is held adds nothing to the total of an account and to its option value.
+-- A commodity without held contracts adds nothing to the total and the option value of an account.
 use Rattle.std.proofs.Common.{◌≡◌, ℕ, zero, suc, ◌+◌, ◌<◌, Bool, true, false, cond}
 use Rattle.std.proofs.Common.{List, [], ◌∷◌, length, refl, ap, ◌∙◌, arith}
 use Rattle.std.proofs.Common.{filter, sym}
@@ -32,7 +32,7 @@ use Rattle.reasons.specs.Shown.{months_shown}
 use Rattle.reasons.proofs.CreditLaws.{net_shown}
 use Rattle.reasons.proofs.FigureLaws.{credit_shown, requirement_shown, risk_shown}
 
--- a sum over numbers is that over those which pass a test, where what it takes of the others is 0
+-- a sum is the sum over the numbers that pass a test, if its terms for the other numbers are 0
 module _ (passes : ℕ → Bool) (f : ℕ → ℤ) (end : ℕ)
     (others : (c : ℕ) → c < end → passes c ≡ false → f c ≡ pos 0) where
   value_if : (b : Bool) (c : ℕ) → c < end → passes c ≡ b → f c ≡ cond b (f c) (pos 0)
@@ -51,7 +51,7 @@ module _ (passes : ℕ → Bool) (f : ℕ → ℤ) (end : ℕ)
 
 -- ---- nothing held
 
--- no contract is held where their number is 0
+-- no contract is held if the number of held contracts is 0
 pub none_held : (held : List HeldContract) → not (length held == 0) ≡ false → held ≡ []
 none_held [] e = refl
 none_held (h ∷ held) e =
@@ -104,14 +104,14 @@ module _ (t : AcceptedTables) (holdings : List Holding) (c : ℕ) (none : held_a
       ∙ ap (λ ms. int_sum_by (λ m. m.delta) (months_shown ms (tiers_at t holdings c).rests)) no_months in
       credit_shown t holdings c ∙ ap pos (credit_zero (state_after_all t holdings c) (ap nat_abs net))
 
-  -- nothing is required for it
+  -- a commodity without held contracts has no requirement
   pub no_requirement : c < length t.commodities → (figures_of t holdings c).requirement ≡ pos 0
   no_requirement lt =
       requirement_shown t holdings c
       ∙ (λ k. requirement_of (no_scan k) (no_intra k) (no_delivery k) (no_credit lt k) (no_minimum k))
       ∙ nothing_required
 
-  -- a commodity of which nothing is held is worth nothing
+  -- a commodity without held contracts has no option value
   no_value : values_shown_at t holdings c ≡ pos 0
   no_value = ap (int_sum_by position_value) none
 

@@ -1,4 +1,5 @@
--- What is shown of spreads are the lines of each in its turn, none of a direction in which it forms 0, and by rising priority.
+-- The spreads shown are the lines of each spread in turn, only for directions in which more than 0 form, by rising
+-- priority.
 use Rattle.std.proofs.Common.{◌≡◌, ℕ, ◌+◌, ◌*◌, ◌<◌, ◌≤◌, Bool, true, false, cond, List, [], ◌∷◌, ◌++◌, length, take, flat_map, filter, map}
 use Rattle.std.proofs.Common.{refl, sym, ap, ◌∙◌, append_assoc, arith, subst}
 use Rattle.std.specs.Prelude.{All, None, Option, Some, ◌==◌, bytes_eq, fold}
@@ -31,7 +32,7 @@ use Rattle.reasons.specs.declared.shown.ShownIntra.{ShownIntra}
 -- ---- one after another
 
 module _ {S A B : Type 0} (step : S → A → S) (ways : S → A → List B) where
-  -- what each gives, from what those before it left
+  -- the items of each element, from the state that the elements before it left
   abbrev turns : S → List A → List B
   turns state [] = []
   turns state (x ∷ xs) = ways state x ++ turns (step state x) xs
@@ -53,7 +54,7 @@ module _ {S A B : Type 0} (step : S → A → S) (ways : S → A → List B) whe
       ∙ (λ k. flat_map (turn state (same k)) (enumerate_from (long k) xs)) in
       (λ k. ways (fold step state (sym here k)) x ++ rest k)
 
-  -- each gives what it gives behind those before it
+  -- each element gives its items from the state after the elements before it
   pub in_turn : (state : S) (xs : List A) → turns state xs ≡ flat_map (turn state xs) (enumerate_from 0 xs)
   in_turn state xs = turns_behind state [] xs
 
@@ -139,7 +140,7 @@ all-append : {A : Type 0} (P : A → Type 0) (xs ys : List A) → AllByRecursion
 all-append P [] ys h k = k
 all-append P (x ∷ xs) ys h k = (h.0, all-append P xs ys h.1 k)
 
--- elements of one key in front of others of the same key or higher ones
+-- elements of one key, followed by rising elements with the same key or higher ones, are rising
 rising_behind : {A : Type 0} (key : A → ℕ) (p : ℕ) (xs ys : List A) → AllByRecursion (λ x. key x ≡ p) xs
     → AllByRecursion (λ y. p ≤ key y) ys → IsRisingBy key ys → IsRisingBy key (xs ++ ys)
 rising_behind key p [] ys same above up = up
@@ -177,7 +178,7 @@ filter_rises key p (x ∷ xs) h = by_test (p x) (filter_rises key p xs h.1) wher
   by_test true rest = (all_filter (λ y. key x ≤ key y) p xs h.0, rest)
   by_test false rest = rest
 
--- what keeps the keys keeps their order
+-- a map that preserves the keys preserves their order
 module _ {A B : Type 0} (key : A → ℕ) (other : B → ℕ) (g : A → B) (same : (x : A) → other (g x) ≡ key x) where
   map_above : (p : ℕ) (xs : List A) → AllByRecursion (λ x. p ≤ key x) xs → AllByRecursion (λ y. p ≤ other y) (map g xs)
   map_above p [] h = tt
@@ -253,7 +254,7 @@ inters_rise c (s ∷ spreads) states up =
     rising_behind (λ (x : ShownInter). x.priority) s.priority (inter_ways s f (ratio_in c s.legs)) (inters_shown c spreads next)
     (inter_ways_same s f (ratio_in c s.legs)) (inters_above s.priority c spreads next up.0) (inters_rise c spreads next up.1)
 
--- under the tables of records
+-- the priorities rise for the tables of any records
 pub intras_rising : (rs : List Record) (id : List ℕ) (t : TierRests)
     → IsRisingBy (λ x. x.priority) (intras_shown (intras_of (tables_of rs) id) t)
 unfolding intras_of tables_of

@@ -1,4 +1,4 @@
--- The lines of each word among the lines of a commodity, and the order of these.
+-- The lines of each word among the lines of a commodity, and their order.
 use Rattle.std.proofs.Common.{◌≡◌, ℕ, Bool, true, false, cond, List, [], ◌∷◌, ◌++◌, map, flat_map, refl, sym, ap, ◌∙◌, append_assoc}
 use Rattle.std.specs.Prelude.{bytes_eq, codes, slice_index_or}
 use Rattle.std.proofs.lemmas.List.{append-nil}
@@ -41,7 +41,7 @@ letter_of_sides AShort side.B = refl
 
 -- ---- lines of one word
 
--- lines where their own word is the one that is asked for, and else none
+-- the lines if their own word is the requested one, and otherwise no lines
 abbrev where_word : List ℕ → List ℕ → List Line → List Line
 where_word own word lines = cond (bytes_eq own word) lines []
 
@@ -61,11 +61,11 @@ of_map own word f all xs = kept_if (bytes_eq own word) word f (λ x. ap (λ w. b
 
 -- ---- the lines of a commodity
 
--- some lines and others, and those of a word among them
+-- the lines of a word in two lists joined are the lines of the word in each, joined
 both : (word : List ℕ) (a b x y : List Line) → lines_of word a ≡ x → lines_of word b ≡ y → lines_of word (a ++ b) ≡ x ++ y
 both word a b x y p q = filter-append (λ l. bytes_eq l.word word) a b ∙ (λ k. p k ++ q k)
 
--- parts in the order in which they stand
+-- the parts, grouped in their order
 grouped : (h m i s n : List Line) (x y z w : Line)
     → h ++ (x ∷ [] ++ (y ∷ [] ++ (m ++ (i ++ (s ++ (n ++ (z ∷ [] ++ (w ∷ [] ++ []))))))))
     ≡ h ++ ((x ∷ y ∷ []) ++ ((m ++ (i ++ s)) ++ ((n ++ z ∷ []) ++ w ∷ [])))
@@ -149,7 +149,7 @@ module _ (t : AcceptedTables) (holdings : List Holding) (c : ℕ) where
   pub short_lines : lines_of (codes "SHORT") (reasons_of t holdings c) ≡ short_line ∷ []
   short_lines = each_part (codes "SHORT")
 
-  -- the line of a word of which there is one
+  -- the only line of a word
   only : (word : List ℕ) (l : Line) → lines_of word (reasons_of t holdings c) ≡ l ∷ [] → line_of word (reasons_of t holdings c) ≡ l
   only word l is = ap (λ ls. slice_index_or ls 0 (record { word = word; fields = [] })) is
 
@@ -169,7 +169,7 @@ module _ (t : AcceptedTables) (holdings : List Holding) (c : ℕ) where
   pub no_lines : lines_of (codes "R") (reasons_of t holdings c) ≡ []
   no_lines = each_part (codes "R")
 
-  -- the lines stand in the order of their words
+  -- the lines are in the order of their words
   pub in_order : reasons_of t holdings c ≡ flat_map (λ word. lines_of word (reasons_of t holdings c)) words_in_order
   unfolding reasons_of
   in_order =

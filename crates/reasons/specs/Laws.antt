@@ -1,4 +1,4 @@
--- What the laws speak of.
+-- The definitions used by the lemmas.
 use Rattle.std.specs.Prelude.{ℕ, ◌≡◌, ◌+◌, ◌++◌, ◌==◌, max, Bool, true, false, not, Contains, List, filter, length, codes}
 use Rattle.std.specs.Prelude.{ℤ, pos, ◌+ℤ◌, ◌*ℤ◌, nat_abs}
 use Rattle.std.specs.Fmt.{decimal}
@@ -25,16 +25,16 @@ use Rattle.inter_credit.specs.OptionValue.{position_value}
 use Rattle.plan_ir.specs.Figures.{deltas_at, held_at, is_commodity_held, spots_at}
 use Rattle.reasons.specs.Lines.{lines_of, number_at, text_at}
 
--- short calls and short puts as a method counts them: both together, or the larger of the two
+-- short calls and short puts as a method counts them: the sum of both, or the larger of the two
 abbrev pub counted : MinimumMethod → ℕ → ℕ → ℕ
 counted method.Sum calls puts = calls + puts
 counted method.Max calls puts = max calls puts
 
--- the numbers of the commodities that have lines: those of which an account with these holdings holds a contract
+-- the numbers of the commodities that have lines, that is, in which an account with these holdings holds a contract
 abbrev pub numbers_shown : AcceptedTables → List Holding → List ℕ
 numbers_shown t holdings = filter (is_commodity_held t holdings) (range_with_len 0 (length t.commodities))
 
--- the sum of the values of the positions in the commodity of a number
+-- the sum of the values of the positions in the commodity of number c
 abbrev pub values_shown_at : AcceptedTables → List Holding → ℕ → ℤ
 values_shown_at t holdings c = int_sum_by position_value (held_at t holdings c)
 
@@ -52,12 +52,12 @@ is_long Short = false
 abbrev pub is_long_in : Direction → Side → Bool
 is_long_in d s = is_long (market_side d s)
 
--- the SPOT records of the commodity of a number whose month has a delta other than 0
+-- the SPOT records of the commodity of number c whose month has a delta other than 0
 abbrev pub spots_with_delta : AcceptedTables → List Holding → ℕ → List Spot
 spots_with_delta t holdings c = filter (λ s. not (nat_abs (units_at (deltas_at t holdings c) s.month) == 0)) (spots_at t c)
 
--- An INTER line is of a record with a leg in the commodity of a number: it has the record's priority and basis points, and the delta
--- used is its spreads times the ratio of this leg.
+-- An INTER line belongs to a record with a leg in the commodity of number c. It has the record's priority and basis
+-- points, and its delta used is its number of spreads times the ratio of this leg.
 pub record IsOfRecord (t : AcceptedTables) (c : ℕ) (l : Line) : Type 0 where
   pub spread : Inter
   pub leg : CommodityLeg
@@ -68,8 +68,8 @@ pub record IsOfRecord (t : AcceptedTables) (c : ℕ) (l : Line) : Type 0 where
   pub used : number_at 8 l 3 ≡ number_at 4 l 2 *ℤ pos leg.ratio
   pub basis_points : number_at 0 l 4 ≡ pos spread.basis_points
 
--- A SPOT line agrees with the MONTH line of its month: left is the size of what this has left, and used and left together are the size
--- of its delta.
+-- A SPOT line agrees with the MONTH line of its month: its delta left is the size of the month's delta left, and used
+-- plus left is the size of the month's delta.
 pub record AgreesWithItsMonth (lines : List Line) (l : Line) : Type 0 where
   pub month_line : Line
   pub shown : Contains (lines_of (codes "MONTH") lines) month_line
@@ -77,11 +77,12 @@ pub record AgreesWithItsMonth (lines : List Line) (l : Line) : Type 0 where
   pub left : number_at 8 l 3 ≡ pos (nat_abs (number_at 8 month_line 2))
   pub all : number_at 8 l 1 +ℤ number_at 8 l 3 ≡ pos (nat_abs (number_at 8 month_line 1))
 
--- a list stands in another, in one piece
+-- a list is contained in another as one contiguous piece
 abbrev pub StandsIn : {A : Type 0} → List A → List A → Type 0
 StandsIn {A} part whole = (before : List A) × ((behind : List A) × (whole ≡ before ++ (part ++ behind)))
 
--- what accepted files have: tables within their limits, and the holdings of an account, which are of contracts of these tables
+-- what accepted files provide: tables within their limits, and the holdings of an account, which are in contracts of
+-- these tables
 pub record AreAccepted (t : AcceptedTables) (holdings : List Holding) : Type 0 where
   pub limits : IsWithinLimits t
   pub portfolio : ArePortfolio holdings

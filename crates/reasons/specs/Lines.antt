@@ -1,4 +1,5 @@
--- What the lines of a commodity say by themselves: the numbers that their fields spell, and the figures that follow from these.
+-- What the lines of a commodity say by themselves: the numbers in their fields, and the figures that follow from these
+-- numbers.
 use Rattle.std.specs.Prelude.{ℕ, ◌*◌, ◌/◌, ◌^◌, ◌==◌, if◌then◌else◌, List, [], ◌∷◌, map, filter, slice_index_or, bytes_eq, codes}
 use Rattle.std.specs.Prelude.{ℤ, pos, ◌+ℤ◌, ◌*ℤ◌, nat_abs}
 use Rattle.std.specs.Int.{div_ceil, int_max}
@@ -10,13 +11,13 @@ use Rattle.inter_credit.specs.Requirement.{requirement_of}
 
 -- ---- lines, and the fields of a line
 
--- the words of lines, in the order in which lines stand
+-- the words of lines, in the order of their lines
 abbrev pub words_in_order : List (List ℕ)
 words_in_order =
     codes "HELD" ∷ codes "SUMS" ∷ codes "SCAN" ∷ codes "MONTH" ∷ codes "INTRA" ∷ codes "SPOT" ∷ codes "INTER" ∷ codes "CREDIT"
     ∷ codes "SHORT" ∷ []
 
--- the words of which there is one line
+-- the words that have exactly one line
 abbrev pub words_of_one : List (List ℕ)
 words_of_one = codes "SUMS" ∷ codes "SCAN" ∷ codes "CREDIT" ∷ codes "SHORT" ∷ []
 
@@ -24,15 +25,15 @@ words_of_one = codes "SUMS" ∷ codes "SCAN" ∷ codes "CREDIT" ∷ codes "SHORT
 abbrev pub lines_of : List ℕ → List Line → List Line
 lines_of word lines = filter (λ l. bytes_eq l.word word) lines
 
--- the line of a word of which there is one
+-- the only line of a word
 abbrev pub line_of : List ℕ → List Line → Line
 line_of word lines = slice_index_or (lines_of word lines) 0 (record { word = word; fields = [] })
 
--- the text of a field, counted from 0 behind the ids
+-- the text of a field, counted from 0 after the ids
 abbrev pub text_at : Line → ℕ → List ℕ
 text_at l k = slice_index_or l.fields k []
 
--- the number that a field spells, in 10^-places
+-- the number in a field, in 10^-places
 abbrev pub number_at : ℕ → Line → ℕ → ℤ
 number_at places l k = exact_value places (text_at l k)
 
@@ -64,31 +65,33 @@ delivery_by_lines lines =
 abbrev pub net_by_lines : List Line → ℤ
 net_by_lines lines = int_sum_by (λ l. number_at 8 l 1) (lines_of (codes "MONTH") lines)
 
--- the weight, in 10^-8: over the INTER lines, what is used times the basis points
+-- the weight, in 10^-8: the sum over the INTER lines of the delta used times the basis points
 abbrev pub weight_by_lines : List Line → ℤ
 weight_by_lines lines = int_sum_by (λ l. number_at 8 l 3 *ℤ number_at 0 l 4) (lines_of (codes "INTER") lines)
 
--- a credit: price risk, in tenths, times weight over 10^4 times the size of the net delta, rounded down, and 0 without a net delta
+-- a credit: price risk in tenths, times weight, over 10^4 times the size of the net delta, rounded down, or 0 without a
+-- net delta
 abbrev pub credit_from : ℤ → ℤ → ℤ → ℤ
 credit_from tenths net weight =
     if nat_abs net == 0 then pos 0
     else pos ((positive_part tenths * positive_part weight) / (10 * 10 ^ 4 * nat_abs net))
 
--- the credit: that of the CREDIT line
+-- the credit that follows from the fields of the CREDIT line
 abbrev pub credit_by_lines : List Line → ℤ
 credit_by_lines lines =
     let l = line_of (codes "CREDIT") lines in credit_from (number_at 1 l 0) (number_at 8 l 1) (number_at 8 l 2)
 
--- the short contracts of the type of a letter: over the HELD lines of this type, the sum of the sizes of the net quantities below 0
+-- the number of short contracts of a type: the sum of the sizes of the negative net quantities in the HELD lines of
+-- this type
 abbrev pub short_by_lines : List ℕ → List Line → ℤ
 short_by_lines letter lines =
     int_sum_by (λ l. pos (negative_part (number_at 0 l 3))) (filter (λ l. bytes_eq (text_at l 1) letter) (lines_of (codes "HELD") lines))
 
--- short calls and short puts as a method's word says that they are counted: both together, or the larger of the two
+-- short calls and short puts as the word of a method counts them: the sum of both, or the larger of the two
 abbrev pub counted_by : List ℕ → ℤ → ℤ → ℤ
 counted_by method calls puts = if bytes_eq method (codes "SUM") then calls +ℤ puts else int_max calls puts
 
--- the minimum: the rate of the SHORT line times its counts by its method
+-- the minimum: the rate of the SHORT line times its counts, combined by its method
 abbrev pub minimum_by_lines : List Line → ℤ
 minimum_by_lines lines =
     let l = line_of (codes "SHORT") lines in
@@ -98,8 +101,8 @@ minimum_by_lines lines =
 abbrev pub value_by_lines : List Line → ℤ
 value_by_lines lines = int_sum_by (λ l. number_at 0 l 4) (lines_of (codes "HELD") lines)
 
--- all figures of a commodity, in the order in which its R line prints them: scan risk, active scenario, both charges, credit, minimum,
--- and the requirement that these have
+-- all figures of a commodity, in the order in which its R line prints them: scan risk, active scenario, both charges,
+-- credit, minimum, and the requirement that follows from them
 abbrev pub figures_by_lines : List Line → List ℤ
 figures_by_lines lines =
     let sums = sums_by_lines lines in

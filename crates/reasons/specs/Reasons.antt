@@ -1,4 +1,4 @@
--- The lines that say why the figures of a commodity are what they are.
+-- The lines that explain the figures of a commodity.
 use Rattle.std.specs.Prelude.{ℕ, ◌*◌, if◌then◌else◌, List, [], ◌∷◌, ◌++◌, map, codes, decimal, ℤ, pos}
 use Rattle.std.specs.Fmt.{signed_decimal}
 use Rattle.span_money.specs.ExactDecimals.{exact_decimal}
@@ -30,15 +30,15 @@ use Rattle.reasons.specs.declared.shown.ShownSpot.{ShownSpot}
 
 -- ---- numbers and words
 
--- deltas, which are held in 10^-8
+-- the text of a delta, which is stored in 10^-8
 abbrev pub in_deltas : ℤ → List ℕ
 in_deltas units = exact_decimal 8 units
 
--- spreads, which are held in 10^-4
+-- the text of a number of spreads, which is stored in 10^-4
 abbrev pub in_spreads : ℕ → List ℕ
 in_spreads n = exact_decimal 4 (pos n)
 
--- half of a number, in tenths
+-- the text of half of a number, in tenths
 abbrev pub half : ℕ → List ℕ
 half doubled = exact_decimal 1 (pos (doubled * 5))
 
@@ -53,14 +53,14 @@ abbrev pub long_side : Direction → List ℕ
 long_side ALong = codes "A"
 long_side AShort = codes "B"
 
--- the word of a method of counting
+-- the word of a counting method
 abbrev pub method_word : MinimumMethod → List ℕ
 method_word method.Sum = codes "SUM"
 method_word method.Max = codes "MAX"
 
 -- ---- the lines
 
--- a held contract: its id, type, month and net quantity, and where options have a value that of the position
+-- a held contract: its id, type, month and net quantity, and the value of the position if options have a value
 abbrev pub held_reason : AcceptedTables → HeldContract → Line
 held_reason t h = record {
   word = codes "HELD";
@@ -94,7 +94,7 @@ intra_reason s = record {
       ∷ exact_decimal 4 (pos (shown_intra_charge s)) ∷ [];
 }
 
--- a spot month: used, spread rate, left, outright rate and charge
+-- a spot month: delta used, spread rate, delta left, outright rate and charge
 abbrev pub spot_reason : ShownSpot → Line
 spot_reason s = record {
   word = codes "SPOT";
@@ -102,8 +102,8 @@ spot_reason s = record {
       ∷ decimal s.outright_rate ∷ exact_decimal 8 (pos (shown_spot_charge s)) ∷ [];
 }
 
--- an intercommodity spread in a direction: its priority, the side that is long, spreads formed, what it uses of the
--- commodity, and its basis points
+-- an intercommodity spread in a direction: its priority, the side that is long, spreads formed, the delta that it uses
+-- of the commodity, and its basis points
 abbrev pub inter_reason : ShownInter → Line
 inter_reason s = record {
   word = codes "INTER";
@@ -111,14 +111,14 @@ inter_reason s = record {
       ∷ decimal s.basis_points ∷ [];
 }
 
--- what the credit is of: price risk, net delta and weight
+-- the inputs of the credit: price risk, net delta and weight
 abbrev pub credit_reason : CommodityState → Line
 credit_reason state = record {
   word = codes "CREDIT";
   fields = half state.price2 ∷ in_deltas state.net ∷ in_deltas (pos state.weight) ∷ [];
 }
 
--- what the minimum is of: short calls, short puts, how they are counted, and the rate
+-- the inputs of the minimum: short calls, short puts, the counting method and the rate
 abbrev pub short_reason : Commodity → List HeldContract → Line
 short_reason c held = record {
   word = codes "SHORT";
@@ -126,7 +126,7 @@ short_reason c held = record {
       ∷ decimal c.minimum_rate ∷ [];
 }
 
--- ---- of the commodity of a number, for an account with these holdings
+-- ---- the commodity of number c, for an account with these holdings
 
 -- the spreads between months of the commodity, as they form
 abbrev pub intras_shown_at : AcceptedTables → List Holding → ℕ → List ShownIntra
@@ -169,7 +169,7 @@ abbrev pub credit_reasons : AcceptedTables → List Holding → ℕ → List Lin
 credit_reasons t holdings c =
     map inter_reason (inters_shown_at t holdings c) ++ credit_reason (state_after_all t holdings c) ∷ []
 
--- all lines of the commodity but that of its figures
+-- all lines of the commodity except the R line with its figures
 unfoldable pub reasons_of : AcceptedTables → List Holding → ℕ → List Line
 reasons_of t holdings c =
     held_reasons t holdings c

@@ -1,5 +1,5 @@
--- What an explanation shows of a commodity beside what its stages give: months with what is left of them, spreads in the
--- directions in which they form, and what spreads used of spot months.
+-- What an explanation shows of a commodity in addition to the results of its stages: months with what is left of them,
+-- spreads in the directions in which they form, and what spreads used of spot months.
 use Rattle.std.specs.Prelude.{ℕ, ◌*◌, ◌==◌, if◌then◌else◌, List, [], ◌∷◌, ◌++◌, map, filter, find, not}
 use Rattle.std.specs.Prelude.{Option, Some, None, option_map, nat_abs, ◌+◌}
 use Rattle.span_tables.specs.declared.records.CommodityLeg.{CommodityLeg}
@@ -47,7 +47,7 @@ shown_spot_charge s = s.used * s.spread_rate + s.left * s.outright_rate
 
 -- ---- spreads between months
 
--- a spread in a direction, where it forms more than 0
+-- a spread in a direction, if more than 0 form
 abbrev pub intra_in : Intra → Direction → ℕ → List ShownIntra
 intra_in s d formed =
     if formed == 0 then [] else record { priority = s.priority; direction = d; formed = formed; rate = s.rate } ∷ []
@@ -56,7 +56,7 @@ intra_in s d formed =
 abbrev pub intra_ways : Intra → SpreadsFormed → List ShownIntra
 intra_ways s f = intra_in s ALong f.a_long ++ intra_in s AShort f.a_short
 
--- the spreads of a commodity, each as it forms from the rests that those before it left
+-- the spreads of a commodity, each as it forms from the residual deltas that the spreads before it left
 abbrev pub intras_shown : List Intra → TierRests → List ShownIntra
 intras_shown [] t = []
 intras_shown (s ∷ spreads) t = intra_ways s (months.formed_both t s) ++ intras_shown spreads (spread_both_ways t s)
@@ -67,11 +67,12 @@ shown_intra_charge s = s.formed * s.rate
 
 -- ---- spreads between commodities
 
--- the ratio of the leg in the commodity of a number, if there is one
+-- the ratio of the leg in the commodity of number c, if there is one
 abbrev pub ratio_in : ℕ → List CommodityLeg → Option ℕ
 ratio_in c legs = option_map (λ leg. leg.ratio) (find (λ leg. leg.commodity == c) legs)
 
--- a spread in a direction, where it forms more than 0, with what it uses of a commodity by the ratio of its leg there
+-- a spread in a direction, if more than 0 form, with the delta that it uses of a commodity by the ratio of its leg
+-- there
 abbrev pub inter_in : Inter → ℕ → Direction → ℕ → List ShownInter
 inter_in s ratio d formed =
     if formed == 0
@@ -84,19 +85,19 @@ inter_in s ratio d formed =
       basis_points = s.basis_points;
     } ∷ []
 
--- a spread in both directions, with A long first, where it has a leg in the commodity
+-- a spread in both directions, with A long first, if it has a leg in the commodity
 abbrev pub inter_ways : Inter → SpreadsFormed → Option ℕ → List ShownInter
 inter_ways s f None = []
 inter_ways s f (Some ratio) = inter_in s ratio ALong f.a_long ++ inter_in s ratio AShort f.a_short
 
--- the spreads of the set that have a leg in the commodity of a number, each as it forms from the rests that all those
--- before it left
+-- the spreads of the parameter set that have a leg in the commodity of number c, each as it forms from the residual
+-- deltas that all spreads before it left
 abbrev pub inters_shown : ℕ → List Inter → List CommodityState → List ShownInter
 inters_shown c [] states = []
 inters_shown c (s ∷ spreads) states =
     inter_ways s (commodities.inter_formed_both states s) (ratio_in c s.legs)
     ++ inters_shown c spreads (inter_both_ways states s)
 
--- what of the weight of a commodity is a spread's in a direction
+-- the part of a commodity's weight that a spread in a direction adds
 abbrev pub weight_of : ShownInter → ℕ
 weight_of s = s.used * s.basis_points

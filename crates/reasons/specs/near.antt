@@ -1,3 +1,3 @@
--- What no promise's words stand on: forms near to the code, what types keep, samples.
+-- Implementation-level forms, type invariants and samples, which no top-level guarantee uses.
 pub mod Fields
 pub mod Stages

@@ -1,4 +1,4 @@
-//! What all commodities of an account have between them, and the lines of the spreads between commodities.
+//! The state that all commodities of an account share, and the lines of the spreads between commodities.
 ghost use Rattle.std.specs.Prelude.{◌≡◌, ◌++◌, ◌*◌, ◌^◌, ◌==◌, ◌<◌, All, IfOk, List, OnOk};
 ghost use Rattle.std.specs.Prelude.{find, fold, length, map, option_copied};
 ghost use Rattle.span_tables.specs.Accepted.{IsInter};
@@ -18,7 +18,8 @@ use span_tables::records::{CommodityLeg, Inter};
 use span_tables::sides::{Direction, SpreadsFormed};
 use std::alloc::{AllocError, Global};
 
-/// Forms the intercommodity spreads in their order, and tells how many each forms in each direction, in 10^-4 spreads.
+/// Forms the intercommodity spreads in their order, and returns how many of each form in each direction, in 10^-4
+/// spreads.
 pub(crate) fn form_inters(
     alloc: Global,
     state: &mut InterState,
@@ -35,14 +36,14 @@ pub(crate) fn form_inters(
     Ok(formed)
 }
 
-// The leg in the commodity of a number, if there is one.
+// Returns the leg in the commodity of a number, if there is one.
 fn leg_in(legs: &[CommodityLeg], commodity: usize) -> Option<&CommodityLeg>
     ensures { option_copied result ≡ find (λ leg. leg.commodity == commodity) legs.now }
 {
     legs.iter().find(|leg| leg.commodity == commodity)
 }
 
-// What so many spreads (in 10^-4) use of the commodity of a leg of this ratio, in 10^-8 deltas.
+// Returns the delta, in 10^-8, that a number of spreads (in 10^-4) uses of the commodity of a leg with this ratio.
 fn used_by(formed: u64, ratio: u32) -> u128
     ensures value { result ≡ formed * ratio }
     ensures bound { result < 2 ^ 127 }
@@ -50,7 +51,7 @@ fn used_by(formed: u64, ratio: u32) -> u128
     u128::from(formed) * u128::from(ratio)
 }
 
-// Appends the line of an intercommodity spread in a direction, where it forms more than 0, for a leg of this ratio.
+// Appends the line of an intercommodity spread in a direction for a leg of this ratio, if more than 0 form.
 fn push_inter(
     out: &mut Vec<u8>,
     ids: &[Field<'_>],
@@ -75,7 +76,7 @@ fn push_inter(
     push_line(out, "INTER", ids, &fields)
 }
 
-// Appends the lines of an intercommodity spread in both directions, where it has a leg in the commodity of a number.
+// Appends the lines of an intercommodity spread in both directions, if it has a leg in the commodity of a number.
 fn push_inter_ways(
     out: &mut Vec<u8>,
     ids: &[Field<'_>],
@@ -111,7 +112,8 @@ pub(crate) fn push_inters(
     Ok(())
 }
 
-/// Appends the line of the price risk, the net delta and the weight that the credit of a commodity is computed from.
+/// Appends the CREDIT line: the price risk, the net delta and the weight from which the credit of a commodity is
+/// computed.
 pub(crate) fn push_credit(
     out: &mut Vec<u8>,
     ids: &[Field<'_>],

@@ -1,4 +1,4 @@
-//! The lines of what is held of a commodity, of its scan, and of its short options.
+//! The lines of a commodity's held contracts, of its scan, and of its short options.
 ghost use Rattle.std.specs.Prelude.{[], ◌∷◌, ◌≡◌, ◌++◌, ◌<◌, IfSome, OnOk, length, map, slice_get};
 ghost use Rattle.scan_risk.specs.Scenarios.{scan_of, scenario_sums};
 ghost use Rattle.reasons.specs.Reasons.{held_reason, scan_reason, short_reason, sums_reason};
@@ -17,7 +17,7 @@ use span_tables::records::Commodity;
 use span_tables::tables::Tables;
 use std::alloc::AllocError;
 
-// Appends the line of the held contract at a place.
+// Appends the line of the held contract at an index.
 fn push_held_at(
     out: &mut Vec<u8>,
     ids: &[Field<'_>],
@@ -57,7 +57,7 @@ pub(crate) fn push_held(
     Ok(())
 }
 
-// Appends the line of the sixteen sums.
+// Appends the line of the sixteen scenario sums.
 fn push_sums(
     out: &mut Vec<u8>,
     ids: &[Field<'_>],
@@ -86,7 +86,7 @@ fn push_scan_line(out: &mut Vec<u8>, ids: &[Field<'_>], scan: &Scan) -> Result<(
     push_line(out, "SCAN", ids, &fields)
 }
 
-/// Appends the lines of the sums and of their scan.
+/// Appends the lines of the scenario sums and of their scan.
 pub(crate) fn push_scan(out: &mut Vec<u8>, ids: &[Field<'_>], held: &Held) -> Result<(), AllocError>
     ensures { OnOk result (out.new.items ≡ out.old.items ++ reasons_text ids.now
         (sums_reason (scenario_sums held.now) ∷ scan_reason (scan_of (scenario_sums held.now)) ∷ [])) }
@@ -96,7 +96,7 @@ pub(crate) fn push_scan(out: &mut Vec<u8>, ids: &[Field<'_>], held: &Held) -> Re
     push_scan_line(out, ids, &scan(&sums))
 }
 
-/// Appends the line of short options.
+/// Appends the line of the short options.
 pub(crate) fn push_short(
     out: &mut Vec<u8>,
     ids: &[Field<'_>],

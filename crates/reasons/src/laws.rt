@@ -1,4 +1,5 @@
-//! Laws: the figures of a commodity follow from what its lines show. Each is the contract of a function that does nothing.
+//! Lemmas: the figures of a commodity follow from what its lines show. Each is the contract of a function that does
+//! nothing.
 ghost use Rattle.inter_credit.specs.Credits as commodities;
 ghost use Rattle.inter_credit.specs.Credits.{credit_of, inter_both_ways};
 ghost use Rattle.inter_credit.specs.Requirement.{is_call, is_put, requirement_of, short_count};
@@ -21,7 +22,8 @@ ghost use Rattle.std.specs.Int.{div_ceil};
 ghost use Rattle.std.specs.List.{enumerate_from};
 ghost use Rattle.std.specs.Prelude.{◌*◌, ◌<◌, ◌^◌, ◌≡◌, All, List, Some, flat_map, fold, length, pos, slice_get, sum_by, take, ℕ};
 
-/// The scan risk is the largest of the sums shown, or 0, and the active scenario the first one that has the largest sum.
+/// The scan risk is the largest of the sums shown, or 0, and the active scenario is the first one that has the largest
+/// sum.
 #[tactic(auto, unfolding(plan_ir::specs::Figures::figures_of, scan_risk::specs::Scenarios::scan_of))]
 pub fn scan_risk_is_the_largest_sum_shown()
     ensures risk { (t : AcceptedTables) (holdings : List Holding) (c : ℕ)
@@ -37,9 +39,9 @@ pub fn intracommodity_charge_is_that_of_the_spreads_shown()
         ≡ pos (div_ceil (sum_by shown_intra_charge (intras_shown_at t holdings c)) (10 ^ 4)) }
 {}
 
-/// The spreads shown between months are those of each spread in its turn, and no others: one for each direction in which it forms more
-/// than 0, of as many as it forms from the rests that the spreads before it left. Under the tables of whatever records their priorities
-/// rise.
+/// The spreads shown between months are exactly the spreads that each record forms in turn. There is one for each
+/// direction in which more than 0 form, with the number that forms from the residual deltas left by the spreads before
+/// it. For the tables of any records, the priorities rise.
 pub fn each_spread_between_months_has_its_lines()
     ensures stands { (t : AcceptedTables) (holdings : List Holding) (c k : ℕ) (spread : Intra)
         → slice_get (intras_at t c) k ≡ Some spread → StandsIn (intra_ways spread (months.formed_both
@@ -54,16 +56,16 @@ pub fn each_spread_between_months_has_its_lines()
         → IsRisingBy (λ s. s.priority) (intras_shown_at (tables_of records) holdings c) }
 {}
 
-/// The delivery charge is the sum of the charges of the spot months shown, divided by 10^8 and rounded up: a spot month whose
-/// delta is 0 has none.
+/// The delivery charge is the sum of the charges of the spot months shown, divided by 10^8 and rounded up. A spot month
+/// whose delta is 0 has no charge.
 #[tactic(auto, using(crate::proofs::ChargeLaws::delivery_shown))]
 pub fn delivery_charge_is_that_of_the_months_shown()
     ensures { (t : AcceptedTables) (holdings : List Holding) (c : ℕ) → (figures_of t holdings c).delivery
         ≡ pos (div_ceil (sum_by shown_spot_charge (spots_shown_at t holdings c)) (10 ^ 8)) }
 {}
 
-/// The net delta of the credit is the sum of the deltas of the months shown, and its price risk is that of the scan: spreads
-/// between commodities keep both.
+/// The net delta of the credit is the sum of the deltas of the months shown, and its price risk is the price risk of
+/// the scan. Spreads between commodities change neither.
 #[tactic(auto, using(crate::proofs::CreditLaws::net_shown, crate::proofs::CreditLaws::price2_shown))]
 pub fn net_delta_is_the_sum_of_the_months_shown()
     ensures net { (t : AcceptedTables) (holdings : List Holding) (c : ℕ) → c < length t.commodities
@@ -72,16 +74,17 @@ pub fn net_delta_is_the_sum_of_the_months_shown()
         → (state_after_all t holdings c).price2 ≡ (scan_at t holdings c).price2 }
 {}
 
-/// The weight of the credit is the sum of the weights of the spreads shown, each what it uses times its basis points.
+/// The weight of the credit is the sum of the weights of the spreads shown. The weight of a spread is the delta that it
+/// uses times its basis points.
 #[tactic(auto, using(crate::proofs::CreditLaws::weight_shown))]
 pub fn weight_is_the_sum_of_the_spreads_shown()
     ensures { (t : AcceptedTables) (holdings : List Holding) (c : ℕ) → IsWithinLimits t → c < length t.commodities
         → (state_after_all t holdings c).weight ≡ sum_by weight_of (inters_shown_at t holdings c) }
 {}
 
-/// The spreads shown between commodities are those of each spread in its turn that has a leg in the commodity, and no others: one for
-/// each direction in which it forms more than 0, of as many as it forms from the rests that the spreads before it left. Under the tables
-/// of whatever records their priorities rise.
+/// The spreads shown between commodities are exactly the spreads that each record with a leg in the commodity forms in
+/// turn. There is one for each direction in which more than 0 form, with the number that forms from the residual deltas
+/// left by the spreads before it. For the tables of any records, the priorities rise.
 pub fn each_spread_between_commodities_has_its_lines()
     ensures stands { (t : AcceptedTables) (holdings : List Holding) (c k : ℕ) (spread : Inter)
         → slice_get (inters_of t) k ≡ Some spread → StandsIn (inter_ways spread (commodities.inter_formed_both
@@ -96,14 +99,14 @@ pub fn each_spread_between_commodities_has_its_lines()
         → IsRisingBy (λ s. s.priority) (inters_shown_at (tables_of records) holdings c) }
 {}
 
-/// The credit is that of the price risk, the net delta and the weight shown.
+/// The credit follows from the price risk, the net delta and the weight shown.
 #[tactic(auto, using(crate::proofs::FigureLaws::credit_shown))]
 pub fn credit_follows_from_what_is_shown()
     ensures { (t : AcceptedTables) (holdings : List Holding) (c : ℕ)
         → (figures_of t holdings c).credit ≡ pos (credit_of (state_after_all t holdings c)) }
 {}
 
-/// The minimum is the rate times the short calls and short puts shown, as the method counts them.
+/// The minimum is the rate times the number of short calls and short puts shown, as the method counts them.
 #[tactic(auto, using(crate::proofs::FigureLaws::minimum_shown))]
 pub fn minimum_follows_from_the_counts_shown()
     ensures { (t : AcceptedTables) (holdings : List Holding) (c : ℕ) → (figures_of t holdings c).minimum
@@ -111,7 +114,7 @@ pub fn minimum_follows_from_the_counts_shown()
         (short_count is_call (held_at t holdings c)) (short_count is_put (held_at t holdings c))) }
 {}
 
-/// The requirement is that of the other amounts.
+/// The requirement follows from the other amounts.
 #[tactic(auto, unfolding(plan_ir::specs::Figures::figures_of))]
 pub fn requirement_is_of_the_figures_shown()
     ensures { (t : AcceptedTables) (holdings : List Holding) (c : ℕ) → (figures_of t holdings c).requirement

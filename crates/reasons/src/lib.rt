@@ -1,4 +1,4 @@
-//! The lines that say why the figures of a commodity are what they are (docs/FORMATS.md, Explanation).
+//! The lines that explain the figures of a commodity (docs/FORMATS.md, Explanation).
 #![tactic(auto)]
 
 mod commodities;

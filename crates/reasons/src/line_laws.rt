@@ -1,4 +1,4 @@
-//! Laws: the figures of a commodity follow from its lines alone, by the numbers that the fields of these spell. Each is the contract
+//! Lemmas: the figures of a commodity follow from its lines alone, by the numbers in their fields. Each is the contract
 //! of a function that does nothing.
 ghost use Rattle.inter_credit.specs.OptionValue.{position_value};
 ghost use Rattle.inter_credit.specs.Requirement.{is_call, is_put};
@@ -17,8 +17,8 @@ ghost use Rattle.spread_stage.specs.Deltas.{months_of};
 ghost use Rattle.std.specs.Fmt.{decimal};
 ghost use Rattle.std.specs.Prelude.{◌*◌, ◌*ℤ◌, ◌+ℤ◌, ◌<◌, ◌<ℤ◌, ◌≡◌, All, List, bytes_eq, codes, flat_map, length, map, pos, true, ℕ};
 
-/// The lines of a commodity are those of each word in turn, in the order of docs/FORMATS.md, and no others; of `SUMS`, `SCAN`, `CREDIT`
-/// and `SHORT` there is one.
+/// The lines of a commodity are exactly the lines of each word in turn, in the order of docs/FORMATS.md. `SUMS`,
+/// `SCAN`, `CREDIT` and `SHORT` have one line each.
 pub fn lines_stand_in_the_order_of_their_words()
     ensures order { (t : AcceptedTables) (holdings : List Holding) (c : ℕ)
         → reasons_of t holdings c ≡ flat_map (λ word. lines_of word (reasons_of t holdings c)) words_in_order }
@@ -26,8 +26,8 @@ pub fn lines_stand_in_the_order_of_their_words()
         → All (λ word. length (lines_of word (reasons_of t holdings c)) ≡ 1) words_of_one }
 {}
 
-/// The SUMS line has the sums. Scan risk and active scenario are those of the sums that it has, and the SCAN line says both, the paired
-/// scenario, and in tenths the price risk.
+/// The SUMS line has the scenario sums. Scan risk and active scenario follow from these sums. The SCAN line has both,
+/// the paired scenario, and the price risk in tenths.
 pub fn scan_follows_from_the_sums_line()
     ensures sums { (t : AcceptedTables) (holdings : List Holding) (c : ℕ) → AreAccepted t holdings
         → sums_by_lines (reasons_of t holdings c) ≡ scenario_sums (held_at t holdings c) }
@@ -48,7 +48,7 @@ pub fn scan_follows_from_the_sums_line()
         ≡ pos (price2 (sums_by_lines (reasons_of t holdings c)) * 5) }
 {}
 
-/// The MONTH lines are those of the months of held contracts, each with its delta and with what is left of it.
+/// The MONTH lines are the lines of the months of held contracts, each with its delta and with what is left of it.
 pub fn month_lines_have_each_held_month()
     ensures months { (t : AcceptedTables) (holdings : List Holding) (c : ℕ)
         → map (λ l. text_at l 0) (lines_of (codes "MONTH") (reasons_of t holdings c)) ≡ map decimal (months_of (held_at t holdings c)) }
@@ -59,8 +59,8 @@ pub fn month_lines_have_each_held_month()
         ≡ map (λ m. m.units) (tiers_at t holdings c).rests }
 {}
 
-/// The intracommodity charge is the sum of the charges of the INTRA lines, rounded up; each of these is spreads, of which there are more
-/// than 0, times rate.
+/// The intracommodity charge is the sum of the charges of the INTRA lines, rounded up. Each charge is a number of
+/// spreads above 0 times the rate.
 pub fn intracommodity_charge_follows_from_the_intra_lines()
     ensures charge { (t : AcceptedTables) (holdings : List Holding) (c : ℕ) → AreAccepted t holdings
         → (figures_of t holdings c).intra ≡ intra_by_lines (reasons_of t holdings c) }
@@ -70,10 +70,10 @@ pub fn intracommodity_charge_follows_from_the_intra_lines()
         → All (λ l. pos 0 <ℤ number_at 4 l 2) (lines_of (codes "INTRA") (reasons_of t holdings c)) }
 {}
 
-/// The INTRA lines and the INTER lines are the spreads shown, each with its priority and with as many spreads as form. The long side of a
-/// line is `A` exactly if the legs of side A are long in the direction of its spread, and `B` exactly if the legs of side B are. An INTRA
-/// line has the rate of its spread. The delta used of an INTER line is its spreads times the ratio of a leg that its record has in the
-/// commodity.
+/// The INTRA lines and the INTER lines are the spreads shown, each with its priority and the number of spreads that
+/// form. The long side of a line is `A` exactly if the legs of side A are long in the direction of its spread, and `B`
+/// exactly if the legs of side B are. An INTRA line has the rate of its spread. The delta used of an INTER line is its
+/// number of spreads times the ratio of a leg that its record has in the commodity.
 pub fn spread_lines_have_each_spread()
     ensures intra_priorities { (t : AcceptedTables) (holdings : List Holding) (c : ℕ)
         → map (λ l. text_at l 0) (lines_of (codes "INTRA") (reasons_of t holdings c))
@@ -100,8 +100,8 @@ pub fn spread_lines_have_each_spread()
         → All (IsOfRecord t c) (lines_of (codes "INTER") (reasons_of t holdings c)) }
 {}
 
-/// The SPOT lines are the SPOT records of the commodity, in their order, whose month has a delta other than 0. Each has the month, the
-/// spread rate and the outright rate of its record. It agrees with the MONTH line of this month.
+/// The SPOT lines are the SPOT records of the commodity whose month has a delta other than 0, in their order. Each has
+/// the month, the spread rate and the outright rate of its record, and agrees with the MONTH line of this month.
 pub fn spot_lines_have_each_spot_month()
     ensures months { (t : AcceptedTables) (holdings : List Holding) (c : ℕ)
         → map (λ l. text_at l 0) (lines_of (codes "SPOT") (reasons_of t holdings c))
@@ -116,8 +116,8 @@ pub fn spot_lines_have_each_spot_month()
         → All (AgreesWithItsMonth (reasons_of t holdings c)) (lines_of (codes "SPOT") (reasons_of t holdings c)) }
 {}
 
-/// The delivery charge is the sum of the charges of the SPOT lines, rounded up; each of these is used times spread rate and left times
-/// outright rate.
+/// The delivery charge is the sum of the charges of the SPOT lines, rounded up. Each charge is the delta used times the
+/// spread rate plus the delta left times the outright rate.
 pub fn delivery_charge_follows_from_the_spot_lines()
     ensures charge { (t : AcceptedTables) (holdings : List Holding) (c : ℕ) → AreAccepted t holdings
         → (figures_of t holdings c).delivery ≡ delivery_by_lines (reasons_of t holdings c) }
@@ -126,8 +126,9 @@ pub fn delivery_charge_follows_from_the_spot_lines()
         (lines_of (codes "SPOT") (reasons_of t holdings c)) }
 {}
 
-/// The CREDIT line has the price risk of the SCAN line, the sum of the deltas of the MONTH lines, and over the INTER lines the sum of what
-/// is used times the basis points; the credit is that of these three. Each INTER line is of more than 0 spreads.
+/// The CREDIT line has the price risk of the SCAN line, the sum of the deltas of the MONTH lines, and the sum over the
+/// INTER lines of the delta used times the basis points. The credit follows from these three. Each INTER line has more
+/// than 0 spreads.
 pub fn credit_follows_from_the_lines()
     ensures price_risk { (t : AcceptedTables) (holdings : List Holding) (c : ℕ) → AreAccepted t holdings → c < length t.commodities
         → number_at 1 (line_of (codes "CREDIT") (reasons_of t holdings c)) 0
@@ -142,14 +143,14 @@ pub fn credit_follows_from_the_lines()
         → All (λ l. pos 0 <ℤ number_at 4 l 2) (lines_of (codes "INTER") (reasons_of t holdings c)) }
 {}
 
-/// The minimum is the rate of the SHORT line times its counts, by the method that it tells.
+/// The minimum is the rate of the SHORT line times its counts, combined by the method in the line.
 pub fn minimum_follows_from_the_short_line()
     ensures { (t : AcceptedTables) (holdings : List Holding) (c : ℕ) → AreAccepted t holdings → c < length t.commodities
         → (figures_of t holdings c).minimum ≡ minimum_by_lines (reasons_of t holdings c) }
 {}
 
-/// The SHORT line has the short calls in front of the short puts: over the HELD lines of type `C`, and over those of type `P`, the sum of
-/// the sizes of the net quantities below 0.
+/// The SHORT line has the number of short calls before the number of short puts. Each number is the sum of the sizes of
+/// the negative net quantities in the HELD lines of type `C` or `P`.
 pub fn short_line_has_the_short_calls_and_puts()
     ensures calls { (t : AcceptedTables) (holdings : List Holding) (c : ℕ) → AreAccepted t holdings
         → number_at 0 (line_of (codes "SHORT") (reasons_of t holdings c)) 0 ≡ short_by_lines (codes "C") (reasons_of t holdings c) }
@@ -157,9 +158,9 @@ pub fn short_line_has_the_short_calls_and_puts()
         → number_at 0 (line_of (codes "SHORT") (reasons_of t holdings c)) 1 ≡ short_by_lines (codes "P") (reasons_of t holdings c) }
 {}
 
-/// The HELD lines are the held contracts, each with its month and its net quantity. The type is `C` exactly if the contract is a call, and
-/// `P` exactly if it is a put. If options have a value, each line has the value of its position, and the value of the commodity is the sum
-/// of these.
+/// The HELD lines are the held contracts, each with its month and its net quantity. The type is `C` exactly if the
+/// contract is a call, and `P` exactly if it is a put. If options have a value, each line has the value of its
+/// position, and the value of the commodity is their sum.
 pub fn held_lines_have_each_held_contract()
     ensures contracts { (t : AcceptedTables) (holdings : List Holding) (c : ℕ)
         → map (λ l. text_at l 0) (lines_of (codes "HELD") (reasons_of t holdings c)) ≡ map (λ h. (h.contract).id) (held_at t holdings c) }
@@ -181,7 +182,7 @@ pub fn held_lines_have_each_held_contract()
         → (facts_in t).options_have_value ≡ true → value_by_lines (reasons_of t holdings c) ≡ values_shown_at t holdings c }
 {}
 
-/// All figures of a commodity are those that follow from its lines: nothing else is wanted to compute the numbers of its R line.
+/// All figures of a commodity follow from its lines: the numbers of its R line can be computed from them alone.
 pub fn figures_follow_from_the_lines()
     ensures { (t : AcceptedTables) (holdings : List Holding) (c : ℕ) → AreAccepted t holdings → c < length t.commodities
         → numbers_of (figures_of t holdings c) ≡ figures_by_lines (reasons_of t holdings c) }

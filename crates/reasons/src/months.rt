@@ -30,7 +30,7 @@ fn push_month(out: &mut Vec<u8>, ids: &[Field<'_>], shown: &ShownMonth) -> Resul
     push_line(out, "MONTH", ids, &fields)
 }
 
-/// Appends the lines of the held months, whose rests stand beside them.
+/// Appends the lines of the held months. The residual delta of each month has the same index as its delta.
 pub(crate) fn push_months(
     out: &mut Vec<u8>,
     ids: &[Field<'_>],
@@ -56,7 +56,7 @@ pub(crate) fn push_months(
     Ok(())
 }
 
-// Appends a spread in a direction, where it forms more than 0.
+// Appends a spread in a direction, if more than 0 form.
 fn push_formed(
     shown: &mut Vec<ShownIntra>,
     intra: &Intra,
@@ -77,7 +77,7 @@ fn push_formed(
     Ok(())
 }
 
-/// Forms the intracommodity spreads in their order, and gives each in the directions in which it forms.
+/// Forms the intracommodity spreads in their order, and returns each in the directions in which it forms.
 pub(crate) fn form_intras(
     alloc: Global,
     tiers: &mut TierState,
@@ -98,7 +98,7 @@ pub(crate) fn form_intras(
     Ok(shown)
 }
 
-// The charge of so many spreads (in 10^-4) at a rate, in 10^-4 minor units.
+// Returns the charge of a number of spreads (in 10^-4) at a rate, in 10^-4 minor units.
 fn at_rate(count: u64, rate: u32) -> i128
     ensures { result ≡ pos (count * rate) }
 {
@@ -133,7 +133,7 @@ pub(crate) fn push_intras(
     Ok(())
 }
 
-// Appends the line of a spot month, where its delta is not 0.
+// Appends the line of a spot month, if its delta is not 0.
 fn push_spot(
     out: &mut Vec<u8>,
     ids: &[Field<'_>],

@@ -1,4 +1,4 @@
-//! What an explanation shows beside what the stages give.
+//! What an explanation shows in addition to the results of the stages.
 
 use span_money::amounts::Units;
 use span_tables::sides::Direction;
@@ -11,7 +11,8 @@ pub struct ShownMonth {
     pub left: Units,
 }
 
-/// An intracommodity spread in a direction in which it forms: how many, in 10^-4 spreads, and its rate in minor units a spread.
+/// An intracommodity spread in a direction in which it forms: the number of spreads, in 10^-4 spreads, and the rate in
+/// minor units a spread.
 #[derive(Clone, Copy, Debug, PartialEq, Eq)]
 pub struct ShownIntra {
     pub priority: u32,
@@ -20,8 +21,8 @@ pub struct ShownIntra {
     pub rate: u32,
 }
 
-/// A spot month: what spreads used of its delta and what they left, sizes in 10^-8 deltas, with its rates in minor units a
-/// delta.
+/// A spot month: the sizes of the delta that spreads used and of the delta that they left, in 10^-8 deltas, and its
+/// rates in minor units a delta.
 #[derive(Clone, Copy, Debug, PartialEq, Eq)]
 pub struct ShownSpot {
     pub month: u32,
@@ -31,8 +32,8 @@ pub struct ShownSpot {
     pub outright_rate: u32,
 }
 
-/// An intercommodity spread in a direction in which it forms: how many, in 10^-4 spreads, what they use of a commodity, in
-/// 10^-8 deltas, and the credit rate in basis points.
+/// An intercommodity spread in a direction in which it forms: the number of spreads, in 10^-4 spreads, the delta that
+/// they use of a commodity, in 10^-8 deltas, and the credit rate in basis points.
 #[derive(Clone, Copy, Debug, PartialEq, Eq)]
 pub struct ShownInter {
     pub priority: u32,

@@ -1,4 +1,5 @@
-//! The reasons for the figures of a commodity: what an account's commodities have between them, and the lines of one.
+//! The reasons for the figures of a commodity: the state that an account's commodities share, and the lines of one
+//! commodity.
 ghost use Rattle.std.specs.Prelude.{◌≡◌, ◌++◌, ◌<◌, IfOk, List, OnOk, length, true};
 ghost use Rattle.span_tables.specs.Holdings.{fits};
 ghost use Rattle.span_tables.specs.declared.portfolios.Holding.{Holding};
@@ -23,8 +24,8 @@ use spread_stage::tiers::start;
 use std::alloc::{AllocError, Global};
 use std::marker::Model;
 
-/// What an account holds of each commodity, by the commodities' numbers, and what its commodities have between them: their
-/// net deltas, rests and weights after all intercommodity spreads, and how many each of these formed.
+/// What an account holds of each commodity, by commodity number, and the state that its commodities share: their net
+/// deltas, residual deltas and weights after all intercommodity spreads, and how many of each spread formed.
 #[derive(Drop)]
 pub struct Stages {
     held: Vec<Held>,
@@ -40,7 +41,7 @@ impl Model for Stages {
     ghost view = { λ s. record { held = s.held.items; states = s.state; formed = s.formed.items } };
 }
 
-// The commodities before any spread between them.
+// Returns the states of the commodities before any spread between them.
 fn loaded_states(
     alloc: Global,
     tables: &Tables,
@@ -64,7 +65,7 @@ fn loaded_states(
     Ok(state)
 }
 
-/// The stages of an account that its commodities share.
+/// Computes the stages of an account that its commodities share.
 pub fn stages_of(
     alloc: Global,
     tables: &Tables,
@@ -105,7 +106,7 @@ fn push_month_reasons(
     Ok(())
 }
 
-/// Appends the lines of the reasons for the figures of the commodity of a number, with these ids behind each word: those
+/// Appends the lines that explain the figures of the commodity of a number, with these ids after each word: the lines
 /// of its held contracts, scan, months, spreads and spot months, credit and short options.
 pub fn push_reasons(
     alloc: Global,

@@ -5,7 +5,7 @@ ghost use Rattle.reasons.specs.Reasons.{kind_letter, long_side, method_word};
 use span_tables::records::{MinimumMethod, ProductKind};
 use span_tables::sides::Direction;
 
-// The letter of a contract's type.
+// Returns the letter of a contract's type.
 pub(crate) fn kind_letter(kind: ProductKind) -> &'static str
     ensures { result.now ≡ kind_letter kind }
 {
@@ -16,7 +16,7 @@ pub(crate) fn kind_letter(kind: ProductKind) -> &'static str
     }
 }
 
-// The side that is long in a direction.
+// Returns the side that is long in a direction.
 pub(crate) fn long_side(direction: Direction) -> &'static str
     ensures { result.now ≡ long_side direction }
 {
@@ -26,7 +26,7 @@ pub(crate) fn long_side(direction: Direction) -> &'static str
     }
 }
 
-// The word of a method of counting.
+// Returns the word of a counting method.
 pub(crate) fn method_word(method: MinimumMethod) -> &'static str
     ensures { result.now ≡ method_word method }
 {

@@ -1,4 +1,4 @@
--- What an account holds of each commodity, and what its commodities have between them.
+-- What an account holds of each commodity, and the state that its commodities share.
 use Rattle.std.specs.Prelude.{List, [], ◌∷◌, map}
 use Rattle.span_tables.specs.Net.{HeldContract, held_of}
 use Rattle.span_tables.specs.Tables.{AcceptedTables, inters_of}
@@ -9,7 +9,8 @@ use Rattle.inter_credit.specs.Credits.{inter_formed_both, inter_both_ways}
 use Rattle.inter_credit.specs.declared.commodity_state.CommodityState.{CommodityState}
 use Rattle.plan_ir.specs.Figures.{inter_states, loaded_states}
 
--- the held contracts of each commodity, the commodities after all spreads between them, and how many each spread formed
+-- the held contracts of each commodity, the commodities after all spreads between them, and the number of each spread
+-- that formed
 pub record StagesView : Type 0 where
   pub held : List (List HeldContract)
   pub states : List CommodityState
@@ -19,7 +20,7 @@ pub record StagesView : Type 0 where
 abbrev pub all_held : AcceptedTables → List Holding → List (List HeldContract)
 all_held t holdings = map (λ c. held_of t.contracts holdings c.id) t.commodities
 
--- how many each of the spreads forms in each direction, from the rests that those before it left
+-- how many of each spread form in each direction, from the residual deltas that the spreads before it left
 abbrev pub inters_formed : List Inter → List CommodityState → List SpreadsFormed
 inters_formed [] states = []
 inters_formed (s ∷ spreads) states = inter_formed_both states s ∷ inters_formed spreads (inter_both_ways states s)

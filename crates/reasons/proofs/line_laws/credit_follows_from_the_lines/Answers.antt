@@ -51,7 +51,7 @@ returns-clause-weight c t holdings n ok lt =
     λ i. exact_read_back 8 (pos s.used) (omega (arith, small.used)) i *ℤ count_read s.basis_points (omega (arith, small.basis_points)) i)
     ∙ sum_of_counts weight_of inters)
 
--- a quotient of what is doubled is that of what is in tenths
+-- a quotient computed from a doubled price risk equals the one computed from tenths
 in_tenths : (p w n : ℕ) → (p * w) / (2 * 10 ^ 4 * n) ≡ ((p * 5) * w) / (10 * 10 ^ 4 * n)
 in_tenths p w n =
     let five : 0 < 5 = omega arith in

@@ -50,7 +50,7 @@ returns-clause-nets c t holdings n ok =
     ∙ each_read (held_reason t) (λ l. number_at 0 l 3) (λ h. h.net) held
     (λ k d lt. let few = (held_are t holdings ok n).nets k d lt in whole_read (get_or held k d).net (omega (arith, few)))
 
--- the value of each position is read
+-- reading the field of each position's value gives this value
 values_read : (t : AcceptedTables) (holdings : List Holding) (n : ℕ) → AreAccepted t holdings → (facts_in t).options_have_value ≡ true
     → All (λ h. number_at 0 (held_reason t h) 4 ≡ position_value h) (held_at t holdings n)
 values_read t holdings n ok has k d lt =

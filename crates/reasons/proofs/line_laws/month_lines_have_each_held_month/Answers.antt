@@ -42,7 +42,7 @@ returns-clause-deltas c t holdings n ok =
     exact_read_back 8 (get_or months k d).delta (omega (arith, few)))
     ∙ each_read shown (λ m. m.delta) (λ m. m.units) (deltas_at t holdings n) (λ k d lt. refl)
 
--- what is left of each month stands beside it
+-- what is left of each month has the same index as its delta
 lefts : (deltas rests : List MonthUnits) → MonthsRise deltas → Shrinks deltas rests
     → map (λ m. units_at rests m.month) deltas ≡ map (λ m. m.units) rests
 lefts deltas rests rise shrinks =

@@ -18,7 +18,7 @@ use Rattle.reasons.proofs.FigureLaws.{active_shown, risk_shown}
 use Rattle.reasons.proofs.WordLaws.{the_scan, the_sums}
 use Rattle.reasons.proofs.line_laws.scan_follows_from_the_sums_line.Goals as goal
 
--- the sums of the line are the sums
+-- the fields of the SUMS line are read as the scenario sums
 sums_are : (t : AcceptedTables) (holdings : List Holding) (n : ℕ) → AreAccepted t holdings
     → sums_by_lines (reasons_of t holdings n) ≡ scenario_sums (held_at t holdings n)
 sums_are t holdings n ok =

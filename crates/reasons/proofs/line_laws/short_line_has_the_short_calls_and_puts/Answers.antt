@@ -18,7 +18,7 @@ use Rattle.reasons.proofs.WordLaws.{held_lines, letter_of_calls, letter_of_puts,
 use Rattle.reasons.proofs.line_laws.short_line_has_the_short_calls_and_puts.Goals as goal
 
 module _ (t : AcceptedTables) (holdings : List Holding) (n : ℕ) (ok : AreAccepted t holdings) where
-  -- the short contracts of a type are those that its lines have
+  -- the number of short contracts of a type follows from the HELD lines of the type
   shorts_read : (letter : List ℕ) (is_kind : ProductKind → Bool)
       → ((kind : ProductKind) → bytes_eq (kind_letter kind) letter ≡ is_kind kind)
       → short_by_lines letter (reasons_of t holdings n) ≡ pos (short_count is_kind (held_at t holdings n))

@@ -38,7 +38,7 @@ module _ (t : AcceptedTables) (holdings : List Holding) (n : ℕ) where
     outright_rate = s.outright_rate;
   }
 
-  -- what each line has of the record that it was written of
+  -- a field of each line is the field of the record that the line was written for
   of_records : (read : Line → List ℕ) (is : Spot → List ℕ) → ((s : Spot) → read (spot_reason (shown s)) ≡ is s)
       → map read (lines_of (codes "SPOT") (reasons_of t holdings n)) ≡ map is (spots_with_delta t holdings n)
   of_records read is same =
@@ -60,7 +60,7 @@ returns-clause-outright_rates c t holdings n = of_records t holdings n (λ l. te
 abbrev units_found : Option MonthUnits → ℤ
 units_found o = unwrap_or (option_map (λ (m : MonthUnits). m.units) o) (pos 0)
 
--- a month of a number among others, which has what is found by this number
+-- a month of the list with number p, which is also the month found by this number
 record IsMonthOf (deltas : List MonthUnits) (p : ℕ) : Type 0 where
   m : MonthUnits
   among : Contains deltas m

@@ -73,7 +73,7 @@ returns-clause-inter_spreads c t holdings n ok =
 
 -- ---- the record of an INTER line
 
--- a spread shown is one of the records, with a leg in the commodity
+-- a spread shown belongs to a record that has a leg in the commodity
 record IsShownOf (all : List Inter) (c : ℕ) (s : ShownInter) : Type 0 where
   spread : Inter
   leg : CommodityLeg
