@@ -1,4 +1,4 @@
--- What a desk has asked of an input whose bytes are known.
+-- What a desk has handed over from an input whose bytes are known.
 use Rattle.std.proofs.Common.{◌≡◌, ◌∙◌, ℕ, Bool, true, false, List, [], ◌++◌, None, Some, refl, sym, ap, append_assoc, append-nil, length}
 use Rattle.std.proofs.Common.{drop, inl, inr}
 use Rattle.std.proofs.KnownBytes.{starts_with_rest}
@@ -9,30 +9,30 @@ use Rattle.desks.specs.near.Intakes.{IsIntake, settled_of, taken_of}
 use Rattle.desks.specs.near.Readings.{Reading}
 use Rattle.desks.proofs.RequestLemmas.{behind_whole, requests_in-whole, whole_lines-whole}
 
--- one form of a fact from the other
+-- `ForSome` implies `IfSome`
 pub if_some : {T : Type 0} (o : Option T) (P : T → Type 0) → ForSome o P → IfSome o P
 if_some None P h = tt
 if_some (Some x) P h = h x refl
 
--- what was taken, where nothing is left of what was received
+-- if nothing is left of the received bytes, all of them were taken
 taken_all : (reading : Reading) (unread : List ℕ) → IsIntake reading unread → unread ≡ []
     → taken_of reading.received unread ≡ reading.received
 taken_all reading unread intake none =
     sym (intake.parts ∙ ap (λ rest. taken_of reading.received unread ++ rest) none ∙ append-nil (taken_of reading.received unread))
 
--- at the end all bytes that were received are settled
+-- at the end all received bytes are settled
 pub settled_at_end : (reading : Reading) (unread : List ℕ) → IsIntake reading unread → reading.ended ≡ true
     → settled_of reading unread ≡ reading.received
 settled_at_end reading unread intake ended = rw ended (taken_all reading unread intake (intake.still (inl ended)))
 
--- after a failure the whole lines are settled
+-- after a failure only the whole lines are settled
 pub settled_cut_off : (reading : Reading) (unread : List ℕ) → IsIntake reading unread → reading.failed ≡ true → reading.ended ≡ false
     → settled_of reading unread ≡ whole_lines reading.received
 settled_cut_off reading unread intake failed lasts =
     rw lasts (ap whole_lines (taken_all reading unread intake (intake.still (inr failed))))
 
 module _ (reading : Reading) (unread : List ℕ) (intake : IsIntake reading unread) where
-  -- the requests of all bytes begin with the requests of the settled ones
+  -- the requests in all bytes begin with the requests in the settled bytes
   settled_first : (all : List ℕ) → reading.given ≡ Some all → (ended : Bool) → reading.ended ≡ ended
       → (more : List (Option (List ℕ))) × (requests_in all ≡ requests_in (settled_of reading unread) ++ more)
   settled_first all given true is = (

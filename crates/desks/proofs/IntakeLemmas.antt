@@ -16,7 +16,7 @@ use Rattle.desks.proofs.RequestLemmas.{requests_in-last, requests_in-line, reque
 
 -- ---- one line
 
--- nothing was read yet
+-- before anything is read
 pub reads_none : (old : Reading) (unread : List ℕ) (line : Kept) → line ≡ kept_of [] → Reads old old unread unread line
 reads_none old unread line fresh = record {
   more = [];
@@ -29,7 +29,7 @@ reads_none old unread line fresh = record {
   given = refl;
 }
 
--- a line feed was found
+-- after a line feed is found
 pub reads_line : (old now : Reading) (first unread rest : List ℕ) (line new_line : Kept) → Reads old now first unread line
     → CutsLine unread rest line new_line → Reads old now first (10 ∷ rest) new_line
 reads_line old now first unread rest line new_line reads cut = record {
@@ -43,7 +43,7 @@ reads_line old now first unread rest line new_line reads cut = record {
   given = reads.given;
 }
 
--- a block has no line feed
+-- after a block without a line feed
 pub reads_all : (old now : Reading) (first unread rest : List ℕ) (line new_line : Kept) → Reads old now first unread line
     → CutsAll unread rest line new_line → Reads old now first [] new_line
 reads_all old now first unread rest line new_line reads cut = record {
@@ -57,7 +57,7 @@ reads_all old now first unread rest line new_line reads cut = record {
   given = reads.given;
 }
 
--- the next block was read
+-- after the next block is read
 pub reads_more : (old now next : Reading) (first block : List ℕ) (line : Kept) → Reads old now first [] line
     → next.received ≡ now.received ++ block → next.given ≡ now.given → (IsStill now → block ≡ []) → (IsStill old → IsStill now)
     → Reads old next first block line
@@ -76,7 +76,7 @@ nil_of : (xs : List ℕ) → length xs ≡ 0 → xs ≡ []
 nil_of [] none = refl
 nil_of (x ∷ xs) none = cc
 
--- nothing more was read
+-- after a read that gives nothing more
 pub reads_over : (old now next : Reading) (first block : List ℕ) (line : Kept) → Reads old now first [] line
     → next.received ≡ now.received ++ block → next.given ≡ now.given → block ≡ [] → Reads old next first [] line
 reads_over old now next first block line reads received given none = record {
@@ -90,13 +90,13 @@ reads_over old now next first block line reads received given none = record {
   given = given ∙ reads.given;
 }
 
--- an end that a read finds
+-- after a read that finds the end
 pub reads_end : (old now next : Reading) (first block : List ℕ) (line : Kept) → Reads old now first [] line
     → next.received ≡ now.received ++ block → next.given ≡ now.given → length block ≡ 0 → Reads old next first [] line
 reads_end old now next first block line reads received given none =
     reads_over old now next first block line reads received given (nil_of block none)
 
--- a reader that gave no more still gives no more
+-- a reader that gives no more bytes continues to give none
 pub stays : (old now : Reading) → now.ended ≡ old.ended → now.failed ≡ old.failed → IsStill old → IsStill now
 stays old now ended failed still =
     elim still [ inl is ↦ inl (ended ∙ is) | inr is ↦ inr (failed ∙ is) ]
@@ -107,7 +107,7 @@ nil_or_cons : (xs ys : List ℕ) (y : ℕ) → [] ≡ xs ++ y ∷ ys → ⊥
 nil_or_cons [] ys y is = cc
 nil_or_cons (x ∷ xs) ys y is = cc
 
--- what lies in front of what is left
+-- the taken bytes are the received bytes before the unread ones
 taken_is : (received taken unread : List ℕ) → received ≡ taken ++ unread → taken_of received unread ≡ taken
 taken_is received taken unread is =
     let count : length received - length unread ≡ length taken = rw is (simp length-append (omega arith)) in
@@ -118,7 +118,7 @@ abbrev pub request_read : Result Bool DeskFault → Kept → List (Option (List 
 request_read (Ok found) line = request_kept line
 request_read (Err fault) line = []
 
--- what holds once a line was read
+-- what is true after a line was read
 pub record Settles (old new : Reading) (old_unread new_unread : List ℕ) (r : Result Bool DeskFault) (line : Kept) : Type 0 where
   pub intake : IsIntake new new_unread
   pub requests : requests_in (settled_of new new_unread) ≡ requests_in (settled_of old old_unread) ++ request_read r line
@@ -127,13 +127,13 @@ module _ (old new : Reading) (first unread : List ℕ) (line : Kept) (intake : I
   abbrev taken : List ℕ
   taken = taken_of old.received first
 
-  -- what was received, with the line that was read cut off behind
+  -- the received bytes are the taken bytes, the line that was read, and the rest
   received_is : (rest : List ℕ) (reads : Reads old new first rest line) → new.received ≡ taken ++ (reads.part ++ rest)
   received_is rest reads =
       reads.received ∙ ap (λ bytes. bytes ++ reads.more) intake.parts ∙ append_assoc taken first reads.more
       ∙ ap (λ bytes. taken ++ bytes) reads.bytes
 
-  -- where nothing came, there is no line feed
+  -- if nothing more came, the line and the rest are empty
   none_came : (rest : List ℕ) (reads : Reads old new first rest line) → IsStill old → [] ≡ reads.part ++ rest
   none_came rest reads is =
       let none = intake.still is in
@@ -197,7 +197,7 @@ module _ (old new : Reading) (first unread : List ℕ) (line : Kept) (intake : I
     last_request : request_of_line reads.part ≡ request_kept line
     last_request = sym (request_kept_of reads.part) ∙ ap request_kept (sym reads.kept)
 
-    -- the requests, where the end had come before or comes now
+    -- the requests, if the end had come before or comes now
     end_requests : (ended : Bool) → old.ended ≡ ended → old.failed ≡ false
         → requests_in (taken ++ reads.part) ≡ requests_in (settled_of old first) ++ request_kept line
     end_requests true is fresh =

@@ -1,4 +1,4 @@
--- What is kept of a line.
+-- The bytes that are kept of a line.
 use Rattle.std.proofs.Common.{◌≡◌, ◌∙◌, ◌+◌, ◌-◌, ◌<◌, ◌≤◌, ℕ, true, false, List, [], ◌∷◌, ◌++◌, None, refl, sym, ap, arith, inl, inr}
 use Rattle.std.proofs.Common.{length, take}
 use Rattle.std.proofs.Common.{length-append}
@@ -13,7 +13,7 @@ use Rattle.desks.specs.declared.desk.TheConstants.{MAX_LINE}
 use Rattle.desks.specs.declared.kept_lines.TheConstants.{KEPT}
 use Rattle.desks.specs.near.Keeping.{Kept, added, kept_of, request_kept}
 
--- bytes for which there is room are all kept
+-- if all bytes fit, all are kept
 pub added_whole : (kept : Kept) (bytes : List ℕ) → length kept.bytes ≤ KEPT → length bytes ≤ KEPT - length kept.bytes
     → record { bytes = kept.bytes ++ bytes; more = kept.more } ≡ added kept bytes
 added_whole kept bytes within room =
@@ -21,7 +21,7 @@ added_whole kept bytes within room =
     let few : nat_lt KEPT (length kept.bytes + length bytes) ≡ false = le-ltb KEPT (length kept.bytes + length bytes) (omega arith) in
     rw (take_all KEPT (kept.bytes ++ bytes) short, few, or-false) refl
 
--- of other bytes the first are kept
+-- if they do not fit, only the first are kept
 pub added_front : (kept : Kept) (bytes : List ℕ) → length kept.bytes ≤ KEPT → KEPT - length kept.bytes < length bytes
     → record { bytes = kept.bytes ++ take (KEPT - length kept.bytes) bytes; more = true } ≡ added kept bytes
 added_front kept bytes within room =
@@ -31,7 +31,7 @@ added_front kept bytes within room =
     let many : nat_lt KEPT (length kept.bytes + length bytes) ≡ true = lt-ltb KEPT (length kept.bytes + length bytes) (omega arith) in
     rw (front, many, or-true) refl
 
--- what is kept of a line that goes on
+-- adding bytes to what is kept of a line gives what is kept of the longer line
 pub added_to : (line bytes : List ℕ) → added (kept_of line) bytes ≡ kept_of (line ++ bytes)
 added_to line bytes =
     elim (cases_lt KEPT (length line)) [
@@ -49,14 +49,14 @@ added_to line bytes =
           rw (whole, less, length-append) refl
     ]
 
--- a text that is too long
+-- the request of a text that is too long is not kept
 long_text : (text : List ℕ) → MAX_LINE < length text → request_of_text text ≡ None ∷ []
 long_text text long =
     let some : (length text == 0) ≡ false = grind arith in
     let many : nat_lt MAX_LINE (length text) ≡ true = lt-ltb MAX_LINE (length text) long in
     rw (some, many) refl
 
--- a carriage return is one byte
+-- stripping a carriage return removes at most one byte
 stripped_length : (line : List ℕ) → length line ≤ length (strip_last 13 line) + 1
 stripped_length line =
     elim (cases_Bool (ends_with_byte 13 line)) [
@@ -64,7 +64,7 @@ stripped_length line =
       | inr not ↦ rw not (omega arith)
     ]
 
--- the request of what is kept
+-- the request of what is kept of a line is the request of the line
 pub request_kept_of : (line : List ℕ) → request_kept (kept_of line) ≡ request_of_line line
 request_kept_of line =
     elim (cases_lt KEPT (length line)) [

@@ -1,4 +1,4 @@
--- What is received of a reader whose bytes are known.
+-- The bytes received from a reader whose bytes are known.
 use Rattle.std.proofs.Common.{◌≡◌, ◌∙◌, ℕ, Bool, List, ◌++◌, None, Some, ap, sym, length, take, append-nil}
 use lib.Seq.{take-append_seam}
 use Rattle.std.specs.Prelude.{Option}
@@ -23,7 +23,7 @@ received_whole (Some xs) (Some ys) received consumed end all is =
     let same : xs ≡ all = cc in
     sym same ∙ consumed ∙ ap (λ rest. received ++ rest) end ∙ append-nil received
 
--- what a reader has given is what it was given, as far as it has come
+-- the received bytes are a prefix of the known bytes, and all of them at the end
 pub received_of : (given rest : Option (List ℕ)) (received : List ℕ) (ended failed : Bool) → IsReading given rest received ended failed
     → IsReceived given received ended
 received_of given rest received ended failed reading = record {

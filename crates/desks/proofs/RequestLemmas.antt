@@ -34,7 +34,7 @@ whole_lines-no_feed (x ∷ xs) part none =
 
 -- ---- requests
 
--- the request of a line in front of others
+-- the request of a line is followed by the requests of the rest
 pub requests_in-line : (part rest : List ℕ) → HasNoFeed part → requests_in (part ++ 10 ∷ rest) ≡ request_of_line part ++ requests_in rest
 requests_in-line part rest none = ap (flat_map request_of_line) (slice_split_at is_feed part 10 rest none refl)
 
@@ -45,13 +45,13 @@ requests_in-last part none =
 
 -- ---- requests of whole lines
 
--- whole lines are parts, and whatever follows them is cut by itself
+-- whole lines are parts, and any bytes after them are cut separately
 record IsCut (xs : List ℕ) : Type 0 where
   lines : List (List ℕ)
   alone : slice_split is_feed xs ≡ lines ++ [] ∷ []
   before : (ys : List ℕ) → slice_split is_feed (xs ++ ys) ≡ lines ++ slice_split is_feed ys
 
--- the tail of whole lines
+-- the tail of whole lines is whole lines, and there is a line feed
 whole_tail : (x : ℕ) (xs : List ℕ) → whole_lines (x ∷ xs) ≡ x ∷ xs → (list_any is_feed (x ∷ xs) ≡ true) × (whole_lines xs ≡ xs)
 whole_tail x xs whole =
     elim (cases_Bool (list_any is_feed (x ∷ xs))) [
@@ -65,7 +65,7 @@ onto_some : (x : ℕ) (parts : List (List ℕ)) → onto_first x parts ≡ [] �
 onto_some x [] is = cc
 onto_some x (part ∷ parts) is = cc
 
--- bytes that are one empty part have no line feed
+-- bytes that split into a single empty part have no line feed
 alone_no_feed : (xs : List ℕ) → slice_split is_feed xs ≡ [] ∷ [] → list_any is_feed xs ≡ false
 alone_no_feed [] alone = refl
 alone_no_feed (x ∷ xs) alone =
@@ -76,7 +76,7 @@ alone_no_feed (x ∷ xs) alone =
       | inr other ↦ absurd (onto_some x (slice_split is_feed xs) (sym (slice_split-cons_no is_feed x xs other) ∙ alone))
     ]
 
--- a byte that is no line feed goes onto the first of the lines, if there is one
+-- a byte that is no line feed is added to the first of the lines, if there is one
 onto_line : (x : ℕ) (xs : List ℕ) → is_feed x ≡ false → list_any is_feed (x ∷ xs) ≡ true → IsCut xs → IsCut (x ∷ xs)
 onto_line x xs other some cut = of_lines cut.lines cut.alone cut.before where
   of_lines : (lines : List (List ℕ)) → slice_split is_feed xs ≡ lines ++ [] ∷ []
@@ -102,7 +102,7 @@ whole_is_cut (x ∷ xs) whole =
       | inr other ↦ onto_line x xs other tail.0 cut
     ]
 
--- the requests of whole lines, and of what follows them
+-- the requests of whole lines are followed by the requests of the bytes after them
 pub requests_in-whole : (xs ys : List ℕ) → whole_lines xs ≡ xs → requests_in (xs ++ ys) ≡ requests_in xs ++ requests_in ys
 requests_in-whole xs ys whole =
     let cut = whole_is_cut xs whole in
@@ -122,7 +122,7 @@ any_whole (x ∷ xs) =
       | inr none ↦ rw none refl
     ]
 
--- whole lines are whole
+-- taking the whole lines twice is the same as taking them once
 pub whole_lines-whole : (xs : List ℕ) → whole_lines (whole_lines xs) ≡ whole_lines xs
 whole_lines-whole [] = refl
 whole_lines-whole (x ∷ xs) =
@@ -133,7 +133,7 @@ whole_lines-whole (x ∷ xs) =
       | inr none ↦ rw none refl
     ]
 
--- what lies behind the whole lines
+-- the bytes after the whole lines
 pub behind_whole : (xs : List ℕ) → (tail : List ℕ) × (xs ≡ whole_lines xs ++ tail)
 behind_whole [] = ([], refl)
 behind_whole (x ∷ xs) =

@@ -1,4 +1,4 @@
--- What is said over a stream, answer by answer.
+-- What is written to a stream, answer by answer.
 use Rattle.std.proofs.Common.{◌≡◌, ◌∙◌, ℕ, Bool, true, false, List, [], ◌∷◌, ◌++◌, refl, sym, ap, append_assoc, append-nil}
 use Rattle.std.proofs.KnownBytes.{Appends-nil, Appends-trans}
 use Rattle.std.specs.Prelude.{Option, MatchBool, ⊤, Result, Ok, Err}
@@ -22,7 +22,7 @@ told_in-append (Asked request ∷ xs) ys = told_in-append xs ys
 told_in-append (Told text ∷ xs) ys =
     ap (λ bytes. text ++ bytes) (told_in-append xs ys) ∙ sym (append_assoc text (told_in xs) (told_in ys))
 
--- the requests of a log that goes on with what a call handed over
+-- the requests of a log that is extended by what a call handed over
 pub asked_in-next : (log : List Event) (r : Result Taken DeskFault) (line : List ℕ)
     → asked_in (log ++ asked_by r line) ≡ asked_in log ++ request_of r line
 asked_in-next log (Ok taken.Line) line = asked_in-append log (asked_by (Ok taken.Line) line)
@@ -37,35 +37,35 @@ told_in-next log (Ok taken.TooLong) line = told_in-append log (asked_by (Ok take
 told_in-next log (Ok taken.End) line = told_in-append log [] ∙ append-nil (told_in log)
 told_in-next log (Err fault) line = told_in-append log [] ∙ append-nil (told_in log)
 
--- the answers of a log that goes on with an answer
+-- the answers of a log that is extended by an answer
 pub told_in-last : (log : List Event) (text : List ℕ) → told_in (log ++ Told text ∷ []) ≡ told_in log ++ text
 told_in-last log text = told_in-append log (Told text ∷ []) ∙ ap (λ bytes. told_in log ++ bytes) (append-nil text)
 
--- taking an answer asks nothing
+-- taking an answer hands over no request
 pub asked_in-last : (log : List Event) (text : List ℕ) → asked_in (log ++ Told text ∷ []) ≡ asked_in log
 asked_in-last log text = asked_in-append log (Told text ∷ []) ∙ append-nil (asked_in log)
 
 -- ---- streams
 
--- nothing was said yet
+-- before anything is written
 pub says_none : (s : Stream) → Says s s []
 says_none s = of_mark s.failed refl where
   of_mark : (failed : Bool) → s.failed ≡ failed → MatchBool failed ⊤ ((s.failed ≡ false) × Appends s.held s.held [])
   of_mark true is = tt
   of_mark false is = (is, Appends-nil s.held)
 
--- over a stream to which a write failed anything is said
+-- after a failed write, `Says` is true of any bytes
 pub says_failed : (old new : Stream) (bytes : List ℕ) → new.failed ≡ true → Says old new bytes
 says_failed old new bytes failed = rw failed tt
 
--- more was said
+-- after more bytes are written
 pub says_more : (old now new : Stream) (bytes more : List ℕ) → Says old now bytes → Appends now.held new.held more → now.failed ≡ false
     → new.failed ≡ now.failed → Says old new (bytes ++ more)
 says_more old now new bytes more said appended fresh same =
     let was = rw fresh at said in
     rw (same, fresh) (was.0, Appends-trans old.held now.held new.held bytes more was.1 appended)
 
--- the requests of a log that goes on with a request that was taken
+-- the requests of a log that is extended by a request that was taken
 pub next_asked : (log : List Event) (taken : Taken) (line : List ℕ) (old new : List (Option (List ℕ))) → asked_in log ≡ old
     → new ≡ old ++ request_of (Ok taken) line → asked_in (log ++ asked_by (Ok taken) line) ≡ new
 next_asked log taken line old new asked is =

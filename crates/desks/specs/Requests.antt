@@ -8,20 +8,20 @@ use Rattle.desks.specs.declared.desk.TheConstants.{MAX_LINE}
 abbrev pub is_feed : ℕ → Bool
 is_feed b = b == 10
 
--- A text that has no bytes is no request. One that has more than `MAX_LINE` bytes is a request too, but it is not kept.
+-- A text without bytes is no request. A text with more than `MAX_LINE` bytes is a request that is not kept.
 abbrev pub request_of_text : List ℕ → List (Option (List ℕ))
 request_of_text text = if length text == 0 then [] else if nat_lt MAX_LINE (length text) then None ∷ [] else Some text ∷ []
 
--- the request of a line, if it is one: the line's bytes less one carriage return at their end
+-- the request of a line, if it is one: the line's bytes without one carriage return at their end
 abbrev pub request_of_line : List ℕ → List (Option (List ℕ))
 request_of_line line = request_of_text (strip_last 13 line)
 
--- The requests in the bytes of an input: the requests of its lines, in order. A line is the bytes up to a line feed, or to the end of the
--- input, where the last line may lack the line feed.
+-- The requests in the bytes of an input: the requests of its lines, in order. A line is the bytes up to a line feed or
+-- to the end of the input, since the last line may lack the line feed.
 abbrev pub requests_in : List ℕ → List (Option (List ℕ))
 requests_in input = flat_map request_of_line (slice_split is_feed input)
 
--- the lines of an input that have their line feed: the bytes up to the last line feed, that line feed included
+-- the lines of an input that end in a line feed: the bytes up to and including the last line feed
 abbrev pub whole_lines : List ℕ → List ℕ
 whole_lines [] = []
 whole_lines (b ∷ bs) = if list_any is_feed (b ∷ bs) then b ∷ whole_lines bs else []

@@ -11,10 +11,10 @@ use std::alloc::{AllocError, Global};
 use std::io::Read;
 use std::marker::Model;
 
-// How many bytes are read at once.
+// The number of bytes that are read at once.
 const BLOCK: usize = 65_536;
 
-// Bytes that were read at once, less those that were taken. A clause sees those that are left.
+// Bytes that were read at once, without those already taken. The value in contracts is the list of bytes that are left.
 #[derive(Drop)]
 pub(crate) struct Block {
     bytes: Vec<u8>,
@@ -34,7 +34,7 @@ impl Model for Block {
 }
 
 impl Block {
-    // A block that is used up.
+    // Creates a block with no bytes left.
     pub(crate) fn new(alloc: Global) -> Result<Block, AllocError>
         ensures { IfOk result (λ block. block ≡ []) }
     {
@@ -45,7 +45,7 @@ impl Block {
         })
     }
 
-    // Reads the next bytes: how many there are, and none only at the end of the reader.
+    // Reads the next bytes and returns their number, which is 0 only at the end of the reader.
     pub(crate) fn fill<R: Read>(&mut self, reader: &mut MarkedReader<R>) -> Result<usize, DeskFault>
         ensures received { reader.new.received ≡ reader.old.received ++ self.new }
         ensures count { IfOk result (λ n. n ≡ length self.new) }
@@ -70,8 +70,8 @@ impl Block {
         Ok(count)
     }
 
-    // Moves the bytes up to the first line feed to a line, and passes over the line feed: whether there is one. If there is none, all bytes
-    // go to the line.
+    // Moves the bytes up to the first line feed to a line, skips the line feed, and returns whether there is one. If
+    // there is none, moves all bytes to the line.
     pub(crate) fn cut(&mut self, line: &mut KeptLine) -> bool
         ensures { Cuts self.old self.new line.old line.new result }
     {

@@ -1,27 +1,27 @@
-//! What a session takes its requests from and gives its answers to.
+//! The device from which a session takes its requests and to which it gives its answers.
 use std::error::Error;
 use std::fmt;
 
-/// How many bytes a request may have.
+/// The maximum number of bytes of a request.
 pub const MAX_LINE: usize = 4096;
 
-/// What a desk hands over.
+/// The result of asking a desk for a request.
 #[derive(Clone, Copy, Debug, PartialEq, Eq)]
 pub enum Taken {
-    /// A request, which the desk has as its line.
+    /// A request, which is now the desk's line.
     Line,
-    /// A request that has more than `MAX_LINE` bytes. It was not kept.
+    /// A request with more than `MAX_LINE` bytes, which was not kept.
     TooLong,
     /// The end of the requests.
     End,
 }
 
-/// Why a desk can serve no more.
+/// The reasons why a desk can serve no more requests.
 #[derive(Clone, Copy, Debug, PartialEq, Eq)]
 pub enum DeskFault {
-    /// The reading of requests failed.
+    /// A read of the requests failed.
     Input,
-    /// The writing of an answer failed.
+    /// A write of an answer failed.
     Output,
 }
 
@@ -36,32 +36,32 @@ impl fmt::Display for DeskFault {
 
 impl Error for DeskFault {}
 
-/// A device that hands over requests and takes answers, one at a time. Its log has both in their order.
+/// A device that hands over requests and takes answers, one at a time. Its log records both in their order.
 pub trait Desk {
     ghost use Rattle.desks.specs.Events.{Event, asked_by, told_by};
     ghost use Rattle.desks.specs.declared.desk.Taken.TheVariants as taken;
     ghost use Rattle.std.specs.Prelude.{◌≡◌, ◌<◌, ◌≤◌, ◌++◌, IfErr, List, Ok, length, ℕ};
 
-    // What happened so far, in order.
+    // The events so far, in order.
     ghost log: { Self → List Event };
 
     // The request that was handed over last.
     ghost line: { Self → List ℕ };
 
-    // What no call changes: the first is a state of the same device as the second.
+    // What no call changes: the two values are states of the same device.
     ghost same: { Self → Self → Type 0 };
 
-    // That the requests came to their end, and all were handed over.
+    // The requests ended, and all were handed over.
     ghost at_end: { Self → Type 0 } = { λ _. Unit {0} };
 
-    // That the reading of requests failed.
+    // A read of the requests failed.
     ghost cut_off: { Self → Type 0 } = { λ _. Unit {0} };
 
-    // That the writing of an answer failed.
+    // A write of an answer failed.
     ghost unwritten: { Self → Type 0 } = { λ _. Unit {0} };
 
-    /// Hands over the next request. Lines that have no bytes are passed over, and one carriage return at the end of a line is none of its
-    /// bytes.
+    /// Hands over the next request. Lines without bytes are skipped, and one carriage return at the end of a line is
+    /// not part of the request.
     fn next(&mut self) -> Result<Taken, DeskFault>
         ensures log { log self.new ≡ log self.old ++ asked_by result (line self.new) }
         ensures kept { result ≡ Ok taken.Line → (0 < length (line self.new)) × (length (line self.new) ≤ MAX_LINE) }
@@ -69,11 +69,12 @@ pub trait Desk {
         ensures fault { IfErr result (λ e. (e ≡ DeskFault.Input) × cut_off self.new) }
         ensures same { same self.old self.new };
 
-    /// The request that was handed over last.
+    /// Returns the request that was handed over last.
     fn line(&self) -> &[u8]
         ensures { result.now ≡ line self.now };
 
-    /// Takes an answer, which was written and flushed, whole, at an `Ok`. A part of it may have gone out at an `Err`.
+    /// Takes an answer. If the result is `Ok`, the whole answer was written and flushed. If it is `Err`, a part of it
+    /// may have been written.
     fn tell(&mut self, text: &[u8]) -> Result<(), DeskFault>
         ensures log { log self.new ≡ log self.old ++ told_by result text.now }
         ensures fault { IfErr result (λ e. (e ≡ DeskFault.Output) × unwritten self.new) }

@@ -1,4 +1,4 @@
-//! A past that only proofs read. It has no bytes, and its methods do nothing at run time.
+//! A past that only proofs read. The type has no bytes, and its methods do nothing at run time.
 ghost use Rattle.std.specs.Borrow.{ftrue};
 ghost use Rattle.std.specs.Prelude.{◌≡◌, []};
 ghost use Rattle.desks.specs.near.Histories.{Past, past_code};
@@ -27,14 +27,14 @@ pub(crate) enum Note<'a> {
 impl History {
     ghost use Rattle.desks.specs.near.Notes.{noted};
 
-    // The past of a device that has none.
+    // Returns an empty past.
     pub(crate) fn new() -> History
         ensures { result.past ≡ record { received = []; log = [] } }
     {
         History {}
     }
 
-    // The past with a note at its end.
+    // Returns the past with a note appended.
     #[inline(always)]
     pub(crate) fn then(&self, _note: &Note<'_>) -> History
         ensures { result.past ≡ noted self.now.past _note.now }

@@ -15,7 +15,8 @@ use std::alloc::{AllocError, Global};
 use std::io::Read;
 use std::marker::Model;
 
-/// The requests of a reader: the reader, the block into which it reads, and what is kept of the line that was taken last.
+/// The requests of a reader: the reader, the block into which it reads, and the bytes kept of the line that was taken
+/// last.
 #[derive(Drop)]
 pub struct Requests<R: Read> {
     reader: MarkedReader<R>,
@@ -33,7 +34,7 @@ impl<R: Read> Model for Requests<R> {
     ghost invariant = { λ r. IsIntake r.reader r.block };
 }
 
-// Reads on until the line is complete: whether it ends in a line feed, and not at the end of the input.
+// Reads until the line is complete, and returns whether it ends in a line feed rather than at the end of the input.
 fn complete<R: Read>(
     reader: &mut MarkedReader<R>,
     block: &mut Block,
@@ -57,7 +58,7 @@ fn complete<R: Read>(
 }
 
 impl<R: Read + Drop> Requests<R> {
-    /// The requests of a reader, before the first is taken. All room that they need is made here.
+    /// Creates the requests of a reader, before the first is taken. Allocates all memory that they need.
     pub fn new(alloc: Global, reader: R) -> Result<Requests<R>, AllocError>
         ensures given { IfOk result (λ r. r.reading.given ≡ R.remaining reader) }
         ensures fresh { IfOk result IsFresh }
@@ -71,7 +72,7 @@ impl<R: Read + Drop> Requests<R> {
 }
 
 impl<R: Read> Requests<R> {
-    // Takes the next line: what it is, if it is a request, or the end of the input.
+    // Takes the next line, and returns its request if it is one, or the end of the input.
     fn take_line(&mut self) -> Result<Option<Taken>, DeskFault>
         ensures taken { requests_in (settled self.new) ≡ requests_in (settled self.old) ++ request_taken result self.new.line }
         ensures kept { result ≡ Ok (Some Taken.Line) → (0 < length self.new.line) × (length self.new.line ≤ MAX_LINE) }
@@ -107,7 +108,7 @@ impl<R: Read> Requests<R> {
         }
     }
 
-    // The request that was taken last.
+    // Returns the request that was taken last.
     pub(crate) fn line(&self) -> &[u8]
         ensures { result.now ≡ self.now.line }
     {

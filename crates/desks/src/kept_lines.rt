@@ -1,4 +1,4 @@
-//! What is kept of a line while it is read.
+//! The bytes that are kept of a line while it is read.
 ghost use Rattle.desks.specs.near.Closing.{closed_as};
 ghost use Rattle.desks.specs.near.Keeping.{added, kept_of, request_kept};
 ghost use Rattle.std.specs.Io.BufRead.{strip_last};
@@ -8,10 +8,10 @@ use crate::desk::MAX_LINE;
 use std::alloc::{AllocError, Global};
 use std::marker::Model;
 
-// How many bytes of a line are kept: as many as a request may have, and a carriage return.
+// The number of bytes that are kept of a line: the maximum of a request, and a carriage return.
 const KEPT: usize = MAX_LINE + 1;
 
-// What a line is: no request, a request that is kept, or one that is too long.
+// What a complete line is: no request, a request that is kept, or a request that is too long.
 #[derive(Clone, Copy)]
 pub(crate) enum Closed {
     Empty,
@@ -19,7 +19,7 @@ pub(crate) enum Closed {
     TooLong,
 }
 
-// The first bytes of a line, and whether it has more. The room for them was made when the session opened.
+// The first bytes of a line, and whether it has more. Their memory was allocated when the session opened.
 #[derive(Drop)]
 pub(crate) struct KeptLine {
     bytes: Vec<u8>,
@@ -38,7 +38,7 @@ impl Model for KeptLine {
     ghost invariant = { λ k. (KEPT ≤ vec_capacity k.bytes) × (length k.bytes.items ≤ KEPT) };
 }
 
-// Takes a carriage return away from the end of a text.
+// Removes one carriage return from the end of a text.
 fn strip(text: &mut Vec<u8>)
     ensures text { text.new.items ≡ strip_last 13 text.old.items }
     ensures capacity { vec_capacity text.new ≡ vec_capacity text.old }
@@ -49,7 +49,7 @@ fn strip(text: &mut Vec<u8>)
 }
 
 impl KeptLine {
-    // A line that has no bytes yet.
+    // Creates a line that has no bytes yet.
     pub(crate) fn new(alloc: Global) -> Result<KeptLine, AllocError>
         ensures { IfOk result (λ line. line ≡ kept_of []) }
     {
@@ -67,7 +67,7 @@ impl KeptLine {
         self.more = false;
     }
 
-    // Goes on with these bytes, and keeps as many as it has room for.
+    // Adds bytes to the line, and keeps as many as fit.
     pub(crate) fn add(&mut self, bytes: &[u8])
         ensures { self.new ≡ added self.old bytes.now }
     {
@@ -80,7 +80,7 @@ impl KeptLine {
         }
     }
 
-    // Ends the line, and takes a carriage return away from its end.
+    // Ends the line, and removes one carriage return from its end.
     pub(crate) fn close(&mut self) -> Closed
         ensures request { request_kept self.old ≡ closed_as result self.new.bytes }
         ensures kept { result ≡ Closed.Line → (0 < length self.new.bytes) × (length self.new.bytes ≤ MAX_LINE) }
@@ -96,7 +96,7 @@ impl KeptLine {
         }
     }
 
-    // The bytes that are kept.
+    // Returns the bytes that are kept.
     pub(crate) fn as_slice(&self) -> &[u8]
         ensures { result.now ≡ self.now.bytes }
     {

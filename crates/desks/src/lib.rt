@@ -1,4 +1,4 @@
-//! Desks: devices over which a session takes requests, one a line, and gives answers.
+//! Desks: devices from which a session takes requests, one on each line, and to which it gives answers.
 #![tactic(auto)]
 
 mod blocks;

@@ -1,4 +1,4 @@
-//! Readers that remember what they gave.
+//! Readers that record what they gave.
 ghost use Rattle.desks.specs.near.Readings.{IsReceived, IsStill, read_into};
 ghost use Rattle.std.specs.Io.{ReadsAtMost};
 ghost use Rattle.std.specs.Prelude.{◌≡◌, ◌+◌, ◌<◌, ◌≤◌, ◌++◌, [], IfOk, OnErr, OnOk, false, length, true};
@@ -10,8 +10,8 @@ use std::io::{ErrorKind, Read};
 use std::marker::Model;
 use std::snapshot::Snapshot;
 
-// A reader, and whether it came to its end or a read of it failed. It is read no more after that. Only a read that failed sets the mark, or
-// a reader that was read 2^64 - 1 times; one that was interrupted is repeated.
+// A reader, and whether it ended or a read of it failed. After either it is not read again. The failure flag is set
+// only by a failed read, or once the reader was read 2^64 - 1 times. An interrupted read is repeated.
 #[derive(Drop)]
 pub(crate) struct MarkedReader<R: Read> {
     reader: R,
@@ -39,7 +39,7 @@ impl<R: Read> Model for MarkedReader<R> {
 }
 
 impl<R: Read> MarkedReader<R> {
-    // A reader that was not read.
+    // Creates a reader that has not been read.
     pub(crate) fn new(reader: R) -> MarkedReader<R>
         ensures given { result.given ≡ R.remaining reader }
         ensures received { result.received ≡ [] }
@@ -58,7 +58,7 @@ impl<R: Read> MarkedReader<R> {
         }
     }
 
-    // One read, which may be interrupted.
+    // Performs one read, which may be interrupted.
     #[tactic(auto, using(crate::proofs::ReadingLemmas::received_of))]
     fn turn(&mut self, buffer: &mut [u8]) -> io::Result<usize>
         requires turns { 0 < self.old.turns }
@@ -90,7 +90,7 @@ impl<R: Read> MarkedReader<R> {
         result
     }
 
-    // Reads into a buffer: how many bytes it gave, and none only at its end.
+    // Reads into a buffer, and returns the number of bytes read, which is 0 only at the end.
     pub(crate) fn read(&mut self, buffer: &mut [u8]) -> Result<usize, DeskFault>
         requires room { 0 < length buffer.old }
 

@@ -17,8 +17,8 @@ use writers::marked_writer::MarkedWriter;
 
 /// A desk over two streams: it reads requests in blocks, and it writes and flushes each answer.
 ///
-/// However it was used, the output has grown by exactly the answers, unless a write failed, and the requests in the log are those in the
-/// bytes that were read.
+/// After any calls, the output has grown by exactly the answers, unless a write failed, and the requests in the log are
+/// the requests taken from the bytes that were read.
 #[derive(Drop)]
 pub struct StreamDesk<'a, R: Read, W: Write> {
     requests: Requests<R>,
@@ -30,7 +30,7 @@ pub struct StreamDesk<'a, R: Read, W: Write> {
     ghost known: { IsIntake requests.reading requests.unread },
 }
 
-// The past with a request that was taken.
+// Returns the past with a request that was taken appended.
 fn noted(history: &History, taken: Taken, line: &[u8]) -> History
     ensures { result.past.log ≡ history.now.past.log ++ asked_by (Ok taken) line.now }
 {
@@ -56,7 +56,7 @@ impl<'a, R: Read, W: Write> StreamDesk<'a, R, W> {
     ghost use Rattle.desks.specs.near.Desks.{IsDealt};
     ghost use Rattle.desks.specs.near.Dealing.{dealings};
 
-    /// The desk of these requests, before the first is taken, and of this output.
+    /// Creates the desk over these requests, before the first is taken, and this output.
     pub fn new(requests: Requests<R>, output: &'a mut MarkedWriter<W>) -> StreamDesk<'a, R, W>
         requires { IsFresh requests }
         ensures name { result.output.ghost_name ≡ output.entry.ghost_name }
@@ -74,7 +74,7 @@ impl<'a, R: Read, W: Write> StreamDesk<'a, R, W> {
         }
     }
 
-    /// Gives the output back.
+    /// Returns the output.
     pub fn close(self) -> &'a mut MarkedWriter<W>
     where
         R: Drop,

@@ -2,7 +2,7 @@
 ghost use Rattle.desks.specs.Requests.{requests_in, whole_lines};
 ghost use Rattle.std.specs.Prelude.{◌≡◌, ◌++◌, [], ◌∷◌, None, Some, codes, replicate};
 
-// Lines. One that has no bytes is no request, and the last one may lack its line feed.
+// Lines. A line without bytes is no request, and the last line may lack its line feed.
 fn lines()
     ensures one { requests_in (codes "MARGIN\n") ≡ Some (codes "MARGIN") ∷ [] }
     ensures empty { requests_in (codes "\n\nA\n\nB\n\n") ≡ Some (codes "A") ∷ Some (codes "B") ∷ [] }
@@ -11,7 +11,7 @@ fn lines()
     ensures whole { whole_lines (codes "A\nB\nC") ≡ codes "A\nB\n" }
 {}
 
-// One carriage return at the end of a line is none of its bytes. (A carriage return is 13, and a line feed 10.)
+// One carriage return at the end of a line is not part of the request. (A carriage return is 13, and a line feed 10.)
 fn carriage_returns()
     ensures windows { requests_in (65 ∷ 13 ∷ 10 ∷ 66 ∷ 13 ∷ 10 ∷ []) ≡ Some (65 ∷ []) ∷ Some (66 ∷ []) ∷ [] }
     ensures alone { requests_in (13 ∷ 10 ∷ 65 ∷ 10 ∷ []) ≡ Some (65 ∷ []) ∷ [] }
@@ -21,14 +21,14 @@ fn carriage_returns()
     ensures both { requests_in (13 ∷ 13 ∷ 10 ∷ []) ≡ Some (13 ∷ []) ∷ [] }
 {}
 
-// A request has at most 4096 bytes, less a carriage return.
+// A request has at most 4096 bytes, not counting a carriage return.
 fn longest()
     ensures longest { requests_in (replicate 4096 65 ++ 10 ∷ []) ≡ Some (replicate 4096 65) ∷ [] }
     ensures with_return { requests_in (replicate 4096 65 ++ 13 ∷ 10 ∷ []) ≡ Some (replicate 4096 65) ∷ [] }
     ensures last { requests_in (replicate 4096 65) ≡ Some (replicate 4096 65) ∷ [] }
 {}
 
-// A longer line is one request, which is not kept.
+// A longer line is one request that is not kept.
 fn too_long()
     ensures longer { requests_in (replicate 4097 65 ++ 10 ∷ 66 ∷ []) ≡ None ∷ Some (66 ∷ []) ∷ [] }
     ensures with_return { requests_in (replicate 4097 65 ++ 13 ∷ []) ≡ None ∷ [] }

@@ -2,14 +2,14 @@
 use Rattle.std.specs.Prelude.{◌≡◌, ℕ, List, [], ◌∷◌, ◌++◌, Bool, MatchBool}
 use Rattle.desks.specs.near.Keeping.{HasNoFeed, Kept, added}
 
--- the bytes up to the first line feed went to the line, and the line feed went nowhere
+-- the bytes up to the first line feed are added to the line, and the line feed is dropped
 pub record CutsLine (old new : List ℕ) (old_line new_line : Kept) : Type 0 where
   pub front : List ℕ
   pub no_feed : HasNoFeed front
   pub bytes : old ≡ front ++ 10 ∷ new
   pub line : new_line ≡ added old_line front
 
--- all bytes went to the line, since there is no line feed among them
+-- all bytes are added to the line, since none of them is a line feed
 pub record CutsAll (old new : List ℕ) (old_line new_line : Kept) : Type 0 where
   pub no_feed : HasNoFeed old
   pub rest : new ≡ []

@@ -1,4 +1,4 @@
--- What a line is once it is complete.
+-- The request of a line that is complete.
 use Rattle.std.specs.Prelude.{ℕ, List, [], ◌∷◌, Option, Some, None, Result, Ok, Err}
 use Rattle.desks.specs.Events.{request_of}
 use Rattle.desks.specs.declared.desk.DeskFault.{DeskFault}
@@ -6,7 +6,7 @@ use Rattle.desks.specs.declared.desk.Taken.{Taken}
 use Rattle.desks.specs.declared.kept_lines.Closed.{Closed}
 use Rattle.desks.specs.declared.kept_lines.Closed.TheVariants as closed
 
--- the request of a line that was closed, with what is then kept of it
+-- the request of a line that was closed, from the bytes that are then kept of it
 abbrev pub closed_as : Closed → List ℕ → List (Option (List ℕ))
 closed_as closed.Empty line = []
 closed_as closed.Line line = Some line ∷ []

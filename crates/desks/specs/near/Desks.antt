@@ -5,8 +5,9 @@ use Rattle.writers.specs.Streams.{Says, Stream}
 use Rattle.desks.specs.Events.{Event, asked_in, told_in}
 use Rattle.desks.specs.Requests.{requests_in, whole_lines}
 
--- The desk over an input and an output: the bytes that the input had at the start, if they are known; those that were read of it; whether
--- a read failed; what was known of the output at the start, and what is known of it now; and the log.
+-- The state of a desk over an input and an output: the bytes that the input had at the start, if they are known; the
+-- bytes read from it; whether a read failed; what was known of the output at the start, and what is known of it now;
+-- and the log.
 pub record Dealings : Type 0 where
   pub given : Option (List ℕ)
   pub received : List ℕ
@@ -15,21 +16,23 @@ pub record Dealings : Type 0 where
   pub output : Stream
   pub log : List Event
 
--- all requests were handed over: those in the bytes that were read, and they are those in all bytes that the input had
+-- all requests were handed over: the requests in the bytes that were read, which are the requests in all bytes of the
+-- input
 pub record IsAtEnd (d : Dealings) : Type 0 where
   pub read : asked_in d.log ≡ requests_in d.received
   pub given : IfSome d.given (λ all. asked_in d.log ≡ requests_in all)
 
--- A read failed. The requests in the lines that have their line feed were handed over, and a line that the failure cut off is none.
+-- A read failed. The requests in the lines that end in a line feed were handed over, and a line that the failure cut
+-- off is no request.
 pub record IsCutOff (d : Dealings) : Type 0 where
   pub failed : d.unreadable ≡ true
   pub read : asked_in d.log ≡ requests_in (whole_lines d.received)
 
--- what holds after any calls
+-- what is true after any calls
 pub record IsDealt (d : Dealings) : Type 0 where
   -- the output has grown by exactly the answers, unless a write failed
   pub told : Says d.began d.output (told_in d.log)
-  -- what was read is the first part of what the input had
+  -- the bytes that were read are a prefix of the input
   pub front : IfSome d.given (λ all. StartsWith all d.received)
-  -- the requests that were handed over are the first ones in the bytes that the input had
+  -- the requests that were handed over are the first requests in the input
   pub asked : IfSome d.given (λ all. (more : List (Option (List ℕ))) × (requests_in all ≡ asked_in d.log ++ more))

@@ -1,4 +1,4 @@
--- What exists in the proofs alone: the bytes that were read and the events of a desk.
+-- Data that exists only in proofs: the bytes that were read and the events of a desk.
 use Rattle.std.specs.Prelude.{◌≡◌, ◌⊎◌, ℕ, List, Option, refl}
 use Rattle.std.specs.Coded.{Coded, code_by, coded×, coded⊎, coded_list, coded_option, coded_ℕ}
 use mathlib.Core.Logic.{inl, inr}

@@ -6,18 +6,18 @@ use Rattle.desks.specs.declared.desk.DeskFault.{DeskFault}
 use Rattle.desks.specs.near.Keeping.{HasNoFeed, Kept, kept_of}
 use Rattle.desks.specs.near.Readings.{IsReceived, IsStill, Reading}
 
--- what a reader gave, what is left of that in its block, and the line that was taken last
+-- what a reader gave, the unread bytes of its block, and the line that was taken last
 pub record Intake : Type 0 where
   pub reading : Reading
   pub unread : List ℕ
   pub line : List ℕ
 
--- the bytes in front of those that are left
+-- the received bytes before the unread ones
 abbrev pub taken_of : List ℕ → List ℕ → List ℕ
 taken_of received unread = take (length received - length unread) received
 
--- The bytes whose requests were handed over: the lines that have their line feed, and at the end of the input all bytes. What a failure
--- cut off is no line.
+-- The bytes whose requests were handed over: the lines that end in a line feed, and at the end of the input all bytes.
+-- Bytes that a failure cut off are no line.
 abbrev pub settled_of : Reading → List ℕ → List ℕ
 settled_of reading unread =
     if reading.ended then taken_of reading.received unread else whole_lines (taken_of reading.received unread)
@@ -25,7 +25,7 @@ settled_of reading unread =
 abbrev pub settled : Intake → List ℕ
 settled intake = settled_of intake.reading intake.unread
 
--- how the bytes that were received, those that are left, and the lines lie to each other
+-- how the received bytes, the unread bytes and the lines are related
 pub record IsIntake (reading : Reading) (unread : List ℕ) : Type 0 where
   pub parts : reading.received ≡ taken_of reading.received unread ++ unread
   pub lines : reading.ended ≡ false → reading.failed ≡ false
@@ -39,11 +39,11 @@ pub record IsFresh (intake : Intake) : Type 0 where
   pub settled : requests_in (settled intake) ≡ []
   pub known : IsIntake intake.reading intake.unread
 
--- a number that falls as bytes are taken: a read gives no more than a block
+-- a number that decreases as bytes are taken: a read gives no more than a block
 abbrev pub measure_of : Reading → List ℕ → ℕ
 measure_of reading unread = reading.turns * (BLOCK + 1) + length unread
 
--- Since a line began, these bytes of it were taken, and those are left in front of whatever comes.
+-- Since a line began, the bytes `part` of it were taken, and the bytes `behind` are left before whatever comes.
 pub record Reads (old now : Reading) (old_unread behind : List ℕ) (line : Kept) : Type 0 where
   pub more : List ℕ
   pub part : List ℕ
@@ -54,7 +54,7 @@ pub record Reads (old now : Reading) (old_unread behind : List ℕ) (line : Kept
   pub still : IsStill old → more ≡ []
   pub given : now.given ≡ old.given
 
--- what is left behind a line that was completed or not: its line feed is passed over
+-- the bytes left after the part of the line that was read, including the line feed if the line was completed
 abbrev pub behind : Result Bool DeskFault → List ℕ → List ℕ
 behind (Ok true) unread = 10 ∷ unread
 behind (Ok false) unread = []
@@ -66,7 +66,7 @@ IsLeft (Ok true) unread = Unit {0}
 IsLeft (Ok false) unread = unread ≡ []
 IsLeft (Err fault) unread = unread ≡ []
 
--- what a line that was completed or not says of the end of the input and of failures
+-- how the end of the input and failures change when a line is read, depending on whether it was completed
 abbrev pub Goes : Reading → Reading → Result Bool DeskFault → Type 0
 Goes old new (Ok true) = (new.ended ≡ old.ended) × (new.failed ≡ old.failed)
 Goes old new (Ok false) = (old.failed ≡ false) × (new.ended ≡ true) × (new.failed ≡ false)

@@ -1,4 +1,4 @@
--- What is kept of a line.
+-- The bytes that are kept of a line.
 use Rattle.std.specs.Prelude.{◌≡◌, ℕ, ◌+◌, Bool, ◌||◌, false, List, [], ◌∷◌, ◌++◌, Option, None, All, length, nat_lt, take, if◌then◌else◌}
 use Rattle.desks.specs.Requests.{is_feed, request_of_line}
 use Rattle.desks.specs.declared.kept_lines.TheConstants.{KEPT}
@@ -12,7 +12,7 @@ pub record Kept : Type 0 where
 abbrev pub kept_of : List ℕ → Kept
 kept_of line = record { bytes = take KEPT line; more = nat_lt KEPT (length line) }
 
--- what is kept once the line goes on with these bytes
+-- what is kept after these bytes are added to the line
 abbrev pub added : Kept → List ℕ → Kept
 added kept bytes =
     record { bytes = take KEPT (kept.bytes ++ bytes); more = kept.more || nat_lt KEPT (length kept.bytes + length bytes) }

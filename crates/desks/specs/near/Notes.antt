@@ -1,4 +1,4 @@
--- What a note makes of the past.
+-- How a note changes the past.
 use Rattle.std.specs.Prelude.{[], ◌∷◌, ◌++◌, Some, None}
 use Rattle.desks.specs.Events.{Asked, Told}
 use Rattle.desks.specs.near.Histories.{Past}

@@ -1,4 +1,4 @@
--- What is said over a stream is said in one way.
+-- `Says` is a proposition: there is at most one proof that these bytes were written to a stream.
 use Rattle.std.specs.Prelude.{◌≡◌, ℕ, Bool, true, false, List, Option, Some, None, MatchBool, ⊤}
 use Rattle.std.specs.Io.KnownBytes.{Appends}
 use Rattle.std.proofs.Props.{props}

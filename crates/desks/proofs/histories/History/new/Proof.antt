@@ -1,4 +1,4 @@
--- `new` picks a past with nothing in it. Assumes `Logic`.
+-- `new` picks an empty past. Assumes `Logic`.
 use Rattle.std.proofs.Common.{[], ◌∷◌, refl}
 use seplogic.Ra.Ura.{Ura}
 use mir.Syntax.{Fn}

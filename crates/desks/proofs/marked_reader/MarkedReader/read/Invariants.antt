@@ -1,7 +1,7 @@
 use Rattle.std.proofs.Common.{◌≡◌, ◌≤◌, true, length}
 use Rattle.desks.proofs.marked_reader.MarkedReader.read.Given as goal
 
--- each turn so far was interrupted, or the last one failed
+-- each read so far was interrupted, or the last one failed
 abbrev pub invariant-loop-self : goal.invariant-loop-self
 invariant-loop-self g l = record {
   received : l.self.received ≡ l.fn.self.received;
