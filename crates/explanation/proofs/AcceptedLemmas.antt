@@ -1,4 +1,5 @@
--- What accepted files have: tables within their limits with portfolios that fit them, and names whose bytes are above a comma.
+-- What accepted files provide: tables within their limits, portfolios that fit them, and names whose bytes are all
+-- greater than a comma.
 use Rattle.std.proofs.Common.{◌≡◌, ℕ, zero, suc, ◌≤◌, Bool, true, false, cond, not, ◌&&◌, List, [], ◌∷◌, ◌++◌, length, get_or, map}
 use Rattle.std.proofs.Common.{filter, Option, Some, None, Ok, Err, Result, refl, sym, ap, ◌∙◌, subst, arith}
 use Rattle.std.specs.Prelude.{◌==◌, All, MatchOption, bytes_eq, filter_map, find, nat_le, option_map, slice_get, unwrap_or, ℤ}
@@ -62,14 +63,14 @@ bytes_above [] h = tt
 bytes_above (b ∷ bs) h =
     let parts = and_parts (is_name_byte b) (list_all is_name_byte bs) h in (byte_above b parts.0, bytes_above bs parts.1)
 
--- the bytes of a name are above a comma
+-- the bytes of a name are greater than a comma
 name_above : (bytes : List ℕ) → is_name bytes ≡ true → IsAbove bytes
 name_above bytes h =
     bytes_above bytes (and_parts (nat_le 1 (length bytes) && nat_le (length bytes) 16) (list_all is_name_byte bytes) h).1
 
 -- ---- tables
 
--- the names of tables are above a comma
+-- the bytes of all names in the tables are greater than a comma
 pub record AreNamed (t : AcceptedTables) : Type 0 where
   pub set_id : IsAbove t.set_id
   pub commodities : All (λ c. IsAbove c.id) t.commodities
@@ -93,7 +94,7 @@ commodity_named (record_of.Intra s) e = tt
 commodity_named (record_of.Spot s) e = tt
 commodity_named (record_of.Inter s) e = tt
 
--- the first of the tests of a contract is that of its id
+-- the id of a contract that passes its range checks has only bytes greater than a comma
 contract_above : (x : Contract) → contract_in_range x ≡ true → IsAbove x.id
 contract_above x e = let last = all_true _ _ _ e in
     let middle = all_true _ _ _ last.0 in
@@ -165,7 +166,7 @@ bound_are t positions portfolios e = by (bind_fault t.contracts positions) refl 
   by (Some f) is e = cc
   by None is e = (is, cc)
 
--- what each account holds by positions without a fault is a portfolio
+-- the holdings of each account are a portfolio if the positions have no fault
 portfolios_hold : (contracts : List Contract) (positions : List PositionRecord) → bind_fault contracts positions ≡ None
     → All (λ p. ArePortfolio p.holdings) (portfolios_of contracts positions)
 unfolding portfolios_of
@@ -192,7 +193,7 @@ bindings_are t positions portfolios e = by (bindings_of t.contracts positions) r
   by (Err f) is e = cc
   by (Ok found) is e = let same_found : found ≡ portfolios = cc in is ∙ ap Ok same_found
 
--- each portfolio of accepted files
+-- each account of accepted files is accepted
 pub portfolios_accepted : (params : List ℕ) (t : AcceptedTables) (positions : List PositionRecord) (portfolios : List AccountHoldings)
     → accepted_of params ≡ Ok t → portfolios_under t positions ≡ Ok portfolios → All (λ p. AreAccepted t p.holdings) portfolios
 portfolios_accepted params t positions portfolios a b =
@@ -205,7 +206,7 @@ portfolios_accepted params t positions portfolios a b =
 
 -- ---- accounts
 
--- where none of two tests and others behind them holds, the second does not
+-- if a chain of tests finds no fault, its second test is false
 second_fails : {F : Type 0} (a b : Bool) (f g : F) (rest : Option F) → cond a (Some f) (cond b (Some g) rest) ≡ None → b ≡ false
 second_fails true b f g rest e = cc
 second_fails false true f g rest e = cc
@@ -263,7 +264,7 @@ of_names : (contracts : List Contract) (positions : List PositionRecord) (names 
 of_names contracts positions [] h = tt
 of_names contracts positions (name ∷ names) h = (h.0, of_names contracts positions names h.1)
 
--- the name of each account is above a comma
+-- the bytes of each account's name are greater than a comma
 pub accounts_named : (t : AcceptedTables) (positions : List ℕ) (records : List PositionRecord) (portfolios : List AccountHoldings)
     → positions_of positions ≡ Ok records → portfolios_under t records ≡ Ok portfolios
     → AllByRecursion (λ p. IsAbove p.account) portfolios
@@ -282,11 +283,11 @@ found_above (y ∷ ys) zero x is all =
     let same_one : y ≡ x = cc in subst (λ (z : Contract). IsAbove z.id) same_one (All-head (λ (z : Contract). IsAbove z.id) y ys all)
 found_above (y ∷ ys) (suc i) x is all = found_above ys i x is (All-tail (λ (z : Contract). IsAbove z.id) y ys all)
 
--- a contract with a net quantity of it
+-- a contract with a net quantity
 abbrev with_net : ℤ → Contract → HeldContract
 with_net net x = record { contract = x; net = net }
 
--- the contracts that are held are of the tables
+-- the held contracts are contracts of the tables, so the bytes of their ids are greater than a comma
 contracts_above : (contracts : List Contract) (holdings : List Holding) → All (λ x. IsAbove x.id) contracts
     → AllByRecursion (λ h. IsAbove (h.contract).id) (held_contracts contracts holdings)
 contracts_above contracts [] all = tt
@@ -299,7 +300,7 @@ contracts_above contracts (h ∷ hs) all =
       by None found rest = rest
       by (Some x) found rest = (found x refl all, rest)
 
--- of some held contracts those that pass a test
+-- filtering held contracts preserves that the bytes of their ids are greater than a comma
 passing_above : (p : HeldContract → Bool) (hs : List HeldContract) → AllByRecursion (λ h. IsAbove (h.contract).id) hs
     → AllByRecursion (λ h. IsAbove (h.contract).id) (filter p hs)
 passing_above p [] all = tt

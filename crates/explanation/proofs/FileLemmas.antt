@@ -1,4 +1,4 @@
--- What two files say and what an explanation says of them.
+-- The contents of two files, and the explanation of them.
 use Rattle.std.proofs.Common.{◌≡◌, ℕ, suc, Bool, true, false, cond, List, [], ◌∷◌, Option, Some, Ok, Err, Result, refl, sym, ap, ◌∙◌}
 use Rattle.std.proofs.Common.{arith, flat_map, None, subst}
 use Rattle.std.specs.Prelude.{All, bytes_eq, find}
@@ -15,14 +15,14 @@ use Rattle.statement_text.proofs.FaultLemmas.{fault_stays}
 use Rattle.explanation.specs.Explanation.{account_lines, account_text, explained, explanation_of, named_text}
 
 module _ (params positions : List ℕ) (account : Option (List ℕ)) where
-  -- of accepted files, what is said of their tables and portfolios
+  -- the explanation of accepted files is the explanation of their tables and portfolios
   pub accepted_explained : (t : AcceptedTables) (records : List PositionRecord) (portfolios : List AccountHoldings)
       → accepted_of params ≡ Ok t → positions_of positions ≡ Ok records → portfolios_under t records ≡ Ok portfolios
       → explanation_of params positions account ≡ explained t portfolios account
   unfolding explanation_of
   accepted_explained t records portfolios a q b = rw (a, q, b) refl
 
--- the account of a name, where the positions have it
+-- the explanation of one account, if it is among the positions
 pub account_explained : (params positions name : List ℕ) (t : AcceptedTables) (records : List PositionRecord)
     (portfolios : List AccountHoldings) (p : AccountHoldings) → accepted_of params ≡ Ok t → positions_of positions ≡ Ok records
     → portfolios_under t records ≡ Ok portfolios → find (λ q. bytes_eq q.account name) portfolios ≡ Some p
@@ -31,7 +31,7 @@ unfolding account_text
 account_explained params positions name t records portfolios p a q b found =
     accepted_explained params positions (Some name) t records portfolios a q b ∙ ap (named_text t name) found
 
--- an account of which the positions have no record is unknown
+-- an account without a position record is unknown
 pub account_unknown : (params positions name : List ℕ) (t : AcceptedTables) (records : List PositionRecord)
     (portfolios : List AccountHoldings) → accepted_of params ≡ Ok t → positions_of positions ≡ Ok records
     → portfolios_under t records ≡ Ok portfolios → find (λ q. bytes_eq q.account name) portfolios ≡ None
@@ -39,7 +39,7 @@ pub account_unknown : (params positions name : List ℕ) (t : AcceptedTables) (r
 account_unknown params positions name t records portfolios a q b found =
     accepted_explained params positions (Some name) t records portfolios a q b ∙ ap (named_text t name) found
 
--- the fault of a statement is that of an explanation
+-- if a statement has a fault, the explanation has the same fault
 pub faults_explained : (params positions : List ℕ) (account : Option (List ℕ)) (e : SpanFault)
     → statement_of params positions ≡ Err e → explanation_of params positions account ≡ Err e
 unfolding statement_of statement_under statement_bound explanation_of
@@ -48,7 +48,7 @@ faults_explained params positions account e is =
     fault_stays fault.Positions (positions_of positions) _ _ e (λ records.
     fault_stays same (portfolios_under t records) _ _ e (λ portfolios h. cc))) is
 
--- the portfolio that is found fits, where all do
+-- the portfolio that is found fits if all portfolios do
 found_if : (b : Bool) (n : ℕ) (q p : AccountHoldings) (other : Option AccountHoldings) → cond b (Some q) other ≡ Some p
     → fits n q.holdings ≡ true → (other ≡ Some p → fits n p.holdings ≡ true) → fits n p.holdings ≡ true
 found_if true n q p other e here later = let same_one : q ≡ p = cc in subst (λ z. fits n z.holdings ≡ true) same_one here

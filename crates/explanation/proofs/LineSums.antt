@@ -1,4 +1,4 @@
--- What is read of an account's lines: the numbers of an R line, and the sums that its T line has.
+-- What is read from an account's lines: the numbers of an R line, and the sums in its T line.
 use Rattle.std.proofs.Common.{◌≡◌, ℕ, ◌^◌, ◌<◌, Bool, true, false, cond, List, [], ◌∷◌, ◌++◌, length, get_or, flat_map, map}
 use Rattle.std.proofs.Common.{refl, sym, ap, ◌∙◌, arith}
 use Rattle.std.specs.Prelude.{All, ℤ, pos, negsuc, ◌+ℤ◌, ◌-ℤ◌, bytes_eq, codes, fold, nat_abs, slice_index_or}
@@ -70,7 +70,7 @@ sum-flat_map read f a (x ∷ xs) =
     ∙ ap (λ z. fold (λ (s : ℤ) (l : Line). s +ℤ read l) z (flat_map f xs)) (int_sum_from read a (f x))
     ∙ sum-flat_map read f (a +ℤ int_sum_by read (f x)) xs
 
--- what is read of the lines of a word, over the lines of some things
+-- the sum over the lines of a word is the sum over the items of the sums over their lines
 pub sum_over : {A : Type 0} (word : List ℕ) (read : Line → ℤ) (f : A → List Line) (xs : List A)
     → int_sum_by read (lines_of word (flat_map f xs)) ≡ int_sum_by (λ x. int_sum_by read (lines_of word (f x))) xs
 sum_over word read f xs =
@@ -78,7 +78,7 @@ sum_over word read f xs =
 
 -- ---- the lines of a word of a commodity
 
--- lines behind ids have the words that they have
+-- inserting ids into lines does not change their words
 lines_behind : (word account set_id commodity : List ℕ) (ls : List Line)
     → lines_of word (map (reason_line account set_id commodity) ls) ≡ map (reason_line account set_id commodity) (lines_of word ls)
 lines_behind word account set_id commodity [] = refl
@@ -91,7 +91,7 @@ lines_behind word account set_id commodity (l ∷ ls) = by (bytes_eq l.word word
   by true rest = ap (λ others. reason_line account set_id commodity l ∷ others) rest
   by false rest = rest
 
--- values stand three fields further behind the ids
+-- the value of a line with ids is three fields further on
 values_behind : (account set_id commodity : List ℕ) (ls : List Line)
     → int_sum_by (λ l. number_at 0 l 7) (map (reason_line account set_id commodity) ls) ≡ int_sum_by (λ l. number_at 0 l 4) ls
 values_behind account set_id commodity ls = from (pos 0) ls where
@@ -130,7 +130,7 @@ module _ (t : AcceptedTables) (p : AccountHoldings) (c : ℕ) where
       ∙ append-nil (lines_of (codes "HELD") front)
       ∙ lines_behind (codes "HELD") p.account t.set_id (commodity_at t c).id (reasons_of t p.holdings c)
 
-  -- what the R lines of a commodity require is its requirement
+  -- the requirement in the R lines of a commodity is its requirement
   requirement_told : AreAccepted t p.holdings → c < length t.commodities
       → int_sum_by (λ l. number_at 0 l 9) (lines_of (codes "R") (commodity_lines t p c)) ≡ (figures_of t p.holdings c).requirement
   requirement_told ok lt = by (is_commodity_held t p.holdings c) refl where
@@ -144,7 +144,7 @@ module _ (t : AcceptedTables) (p : AccountHoldings) (c : ℕ) where
         ap (λ ls. int_sum_by (λ l. number_at 0 l 9) (lines_of (codes "R") ls)) (no_commodity_lines none)
         ∙ sym (no_requirement t p.holdings c (none_held (held_at t p.holdings c) none) lt)
 
-  -- what the HELD lines of a commodity are worth is what it is worth
+  -- the sum of the values in the HELD lines of a commodity is its option value
   value_told : value_by_lines (reasons_of t p.holdings c) ≡ values_shown_at t p.holdings c
       → int_sum_by (λ l. number_at 0 l 7) (lines_of (codes "HELD") (commodity_lines t p c)) ≡ values_shown_at t p.holdings c
   value_told worth = by (is_commodity_held t p.holdings c) refl where
@@ -160,7 +160,7 @@ module _ (t : AcceptedTables) (p : AccountHoldings) (c : ℕ) where
 
 -- ---- a T line
 
--- what is due, or in excess, of amounts that are not too large
+-- the due or the excess of amounts below 10^63 is below 10^64
 part_small : (a b : ℤ) → nat_abs a < 10 ^ 63 → nat_abs b < 10 ^ 63 → positive_part (a -ℤ b) < 10 ^ 64
 part_small a b few less = of_difference (a -ℤ b) (omega (arith, ints, few, less)) where
   of_difference : (z : ℤ) → nat_abs z < 10 ^ 64 → positive_part z < 10 ^ 64

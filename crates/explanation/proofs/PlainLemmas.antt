@@ -1,4 +1,4 @@
--- The lines of an account under named tables have no comma and no line feed in their fields.
+-- If the names in the tables are plain, the fields of an account's lines contain no comma and no line feed.
 use Rattle.std.proofs.Common.{◌≡◌, ℕ, zero, suc, ◌+◌, ◌<◌, Bool, true, false, cond, List, [], ◌∷◌, ◌++◌, length, flat_map, map, refl, arith}
 use Rattle.std.specs.Prelude.{ℤ, codes, nat_le}
 use Rattle.std.specs.Fmt.{signed_decimal}
@@ -61,7 +61,7 @@ plain_lines : {A : Type 0} (f : A → Line) → ((x : A) → IsPlain (f x)) → 
 plain_lines f each [] = tt
 plain_lines f each (x ∷ xs) = (each x, plain_lines f each xs)
 
--- a line behind ids that are plain
+-- a plain line with plain ids inserted is plain
 plain_ids : (account set_id commodity : List ℕ) (l : Line) → IsAbove account → IsAbove set_id → IsAbove commodity → IsPlain l
     → IsPlain (reason_line account set_id commodity l)
 plain_ids account set_id commodity l a s c plain =
@@ -203,7 +203,7 @@ module _ (t : AcceptedTables) (named : AreNamed t) (p : AccountHoldings) (accoun
       plain-append (commodity_lines t p from) (flat_map (commodity_lines t p) (range_with_len (from + 1) n))
       (commodity_plain from (omega (arith, all))) (commodities_plain (from + 1) n (omega (arith, all)))
 
-  -- the lines of an account
+  -- the lines of an account are plain
   pub account_plain : AllByRecursion IsPlain (account_lines t p)
   account_plain =
       plain-append (flat_map (commodity_lines t p) (range_with_len 0 (length t.commodities)))
@@ -211,7 +211,7 @@ module _ (t : AcceptedTables) (named : AreNamed t) (p : AccountHoldings) (accoun
       (commodities_plain 0 (length t.commodities) (omega arith))
       (total_plain p.account t.set_id (total_numbers t (total_of t p) (option_value_of t p.holdings)) account named.set_id, tt)
 
--- the lines of accounts
+-- the lines of all accounts are plain
 pub accounts_plain : (t : AcceptedTables) → AreNamed t → (portfolios : List AccountHoldings)
     → AllByRecursion (λ p. IsAbove p.account) portfolios → AllByRecursion IsPlain (flat_map (account_lines t) portfolios)
 accounts_plain t named [] all = tt

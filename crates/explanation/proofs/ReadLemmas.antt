@@ -12,9 +12,9 @@ use Rattle.span_money.specs.ExactDecimals.{exact_decimal, fraction_digits, fract
 use Rattle.span_money.specs.LineFields.{Line, field, line}
 use Rattle.explanation.specs.Laws.{line_of_parts, lines_read, parts_at}
 
--- ---- bytes above a comma
+-- ---- bytes greater than a comma
 
--- each byte is above a comma, and so above a line feed
+-- each byte is greater than a comma, and so greater than a line feed
 abbrev pub IsAbove : List ℕ → Type 0
 IsAbove text = AllByRecursion (λ b. 45 ≤ b) text
 
@@ -22,7 +22,7 @@ pub above-append : (xs ys : List ℕ) → IsAbove xs → IsAbove ys → IsAbove 
 above-append [] ys h k = k
 above-append (x ∷ xs) ys h k = (h.0, above-append xs ys h.1 k)
 
--- the word of a line and its fields are above a comma
+-- the bytes of the word and of the fields of a line are greater than a comma
 pub record IsPlain (l : Line) : Type 0 where
   pub word : IsAbove l.word
   pub fields : AllByRecursion IsAbove l.fields
@@ -54,7 +54,7 @@ cut_fields word (f ∷ fields) w fs =
 
 -- ---- a text
 
--- no byte of a line in front of its line feed is one
+-- no byte of a line before its line feed is a line feed
 no_feed : (l : Line) → IsPlain l → All (λ b. (b == 10) ≡ false) (bytes_of l)
 no_feed l plain = All-from_recursion (λ b. (b == 10) ≡ false) (bytes_of l) (both l.word (flat_map field l.fields)
     (each l.word plain.word) (of_fields l.fields plain.fields)) where
@@ -97,7 +97,7 @@ lines_are_read ls plain =
     ∙ ap (map (λ bytes. line_of_parts (parts_at 44 bytes))) (all_but_last (map bytes_of ls))
     ∙ each_line ls plain
 
--- ---- numbers are above a comma
+-- ---- the bytes of numbers are greater than a comma
 
 glyph_above : (upper b : Bool) (d : ℕ) → 45 ≤ cond b (48 + d) (cond upper (55 + d) (87 + d))
 glyph_above upper true d = omega arith

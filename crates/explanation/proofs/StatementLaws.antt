@@ -1,4 +1,4 @@
--- Of the lines of an explanation those of the statement are the statement.
+-- The R and T lines of an explanation are the statement.
 use Rattle.std.proofs.Common.{◌≡◌, ℕ, Bool, true, false, cond, List, [], ◌∷◌, ◌++◌, length, map, filter, flat_map, refl, sym, ap}
 use Rattle.std.proofs.Common.{◌∙◌, Ok, Err, Result}
 use Rattle.std.specs.Prelude.{None}
@@ -29,12 +29,12 @@ use Rattle.explanation.proofs.FileLemmas.{accepted_explained}
 use Rattle.explanation.proofs.PlainLemmas.{accounts_plain}
 use Rattle.explanation.proofs.ReadLemmas.{lines_are_read}
 
--- the text of the lines of some things is the texts of their lines
+-- the text of the lines of a list of items is the concatenation of the texts of each item's lines
 pub texts_of : {A : Type 0} (f : A → List Line) (xs : List A) → flat_map line (flat_map f xs) ≡ flat_map (λ x. flat_map line (f x)) xs
 texts_of f [] = refl
 texts_of f (x ∷ xs) = flat_map-append line (f x) (flat_map f xs) ∙ ap (λ t. flat_map line (f x) ++ t) (texts_of f xs)
 
--- the lines of the statement among some
+-- the lines of the statement among a list of lines
 abbrev pub of_statement : List Line → List Line
 of_statement lines = filter is_of_statement lines
 
@@ -134,7 +134,7 @@ account_contained t p =
     ∙ (λ k. of_statement-flat_map (commodity_lines t p) numbers k ++ append-nil (line total) k)
     ∙ (λ k. flat_map (λ c. commodity_contained t p c k) numbers ++ line total)
 
--- ---- of two files
+-- ---- two files
 
 accounts_contained : (t : AcceptedTables) (portfolios : List AccountHoldings)
     → flat_map line (of_statement (flat_map (account_lines t) portfolios)) ≡ statement_text t portfolios
@@ -184,19 +184,19 @@ module _ (params positions text : List ℕ) where
   unfolding statement_of
   have_statement is = of_tables (accepted_of params) refl is
 
--- ---- of all accounts
+-- ---- all accounts
 
 module _ (params positions : List ℕ) (t : AcceptedTables) (records : List PositionRecord) (portfolios : List AccountHoldings)
     (accepted : accepted_of params ≡ Ok t) (read : positions_of positions ≡ Ok records) (bound : portfolios_under t records ≡ Ok portfolios)
   where
-    -- the explanation of all accounts is the lines of each, one account after the other
+    -- the explanation of all accounts is the lines of each account, one account after another
     pub all_explained : explanation_of params positions None ≡ Ok (flat_map line (flat_map (account_lines t) portfolios))
     unfolding account_text
     all_explained =
         accepted_explained params positions None t records portfolios accepted read bound
         ∙ ap Ok (sym (texts_of (account_lines t) portfolios))
 
-    -- these are the lines that are read of it
+    -- reading the explanation of all accounts gives these lines
     pub all_read : lines_read (flat_map line (flat_map (account_lines t) portfolios)) ≡ flat_map (account_lines t) portfolios
     all_read =
         lines_are_read (flat_map (account_lines t) portfolios)

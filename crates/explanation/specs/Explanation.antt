@@ -14,11 +14,12 @@ use Rattle.reasons.specs.Reasons.{reasons_of}
 
 -- ---- the lines of an account
 
--- a line of a commodity, with the ids of the account, the set and the commodity behind its word
+-- a line of a commodity, with the ids of the account, the parameter set and the commodity after its word
 abbrev pub reason_line : List ℕ → List ℕ → List ℕ → Line → Line
 reason_line account set_id commodity r = record { word = r.word; fields = account ∷ set_id ∷ commodity ∷ r.fields }
 
--- the lines of an account for the commodity of a number, where it holds a contract of it: the reasons, and then the figures
+-- the lines of an account for the commodity of number c, if it holds a contract in it: the reasons, and then the
+-- figures
 abbrev pub commodity_lines : AcceptedTables → AccountHoldings → ℕ → List Line
 commodity_lines t p c =
     if is_commodity_held t p.holdings c
@@ -26,7 +27,7 @@ commodity_lines t p c =
     ++ figures_line p.account t.set_id (commodity_at t c).id (figures_of t p.holdings c) ∷ []
     else []
 
--- the lines of an account: those of the commodities that it holds, in file order, and its total
+-- the lines of an account: the lines of the commodities that it holds, in file order, and its total
 abbrev pub account_lines : AcceptedTables → AccountHoldings → List Line
 account_lines t p =
     flat_map (commodity_lines t p) (range_with_len 0 (length t.commodities))
@@ -38,18 +39,18 @@ account_text t p = flat_map line (account_lines t p)
 
 -- ---- from bytes to bytes
 
--- the text of the portfolio of an account of a name, or that there is none
+-- the text of the portfolio of the named account, or the fault that there is none
 abbrev pub named_text : AcceptedTables → List ℕ → Option AccountHoldings → Result (List ℕ) SpanFault
 named_text t name None = Err (fault.UnknownAccount name)
 named_text t name (Some p) = Ok (account_text t p)
 
--- the text of all portfolios in their order, or of that of the account of a name
+-- the text of all portfolios in their order, or only of the named account's portfolio
 abbrev pub explained : AcceptedTables → List AccountHoldings → Option (List ℕ) → Result (List ℕ) SpanFault
 explained t portfolios None = Ok (flat_map (account_text t) portfolios)
 explained t portfolios (Some name) = named_text t name (find (λ p. bytes_eq p.account name) portfolios)
 
--- The explanation of two files, for all accounts or for one, or the first fault: in reading the parameters, in checking
--- them, in reading the positions, in binding them, and then that the account is not among theirs.
+-- The explanation of two files, for all accounts or for one, or the first fault. Faults come in this order: reading the
+-- parameters, checking them, reading the positions, binding them, and an account that is not among the positions.
 unfoldable pub explanation_of : List ℕ → List ℕ → Option (List ℕ) → Result (List ℕ) SpanFault
 explanation_of params positions account =
     and_then same (accepted_of params) (λ tables.

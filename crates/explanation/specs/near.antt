@@ -1,2 +1,2 @@
--- What no promise's words stand on: what worked values unfold.
+-- Definitions that test vectors unfold, which no top-level guarantee uses.
 pub mod OnLiterals

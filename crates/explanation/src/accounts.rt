@@ -10,7 +10,7 @@ use statement_text::lines::{ids_of, push_commodity_of, push_total_of};
 use std::alloc::{AllocError, Global};
 use step_scheduler::rows::Row;
 
-// Appends the lines of an account for the commodity of a number, where it holds a contract of it.
+// Appends the lines of an account for the commodity of a number, if it holds a contract in it.
 fn push_commodity(
     alloc: Global,
     out: &mut Vec<u8>,
@@ -36,7 +36,7 @@ fn push_commodity(
     Ok(())
 }
 
-/// Appends the lines of an account: for each commodity that it holds the reasons and the figures, and its total.
+/// Appends the lines of an account: the reasons and the figures of each commodity that it holds, and its total.
 #[tactic(auto, unfolding(crate::specs::Explanation::account_text))]
 pub fn push_account(alloc: Global, out: &mut Vec<u8>, row: &Row) -> Result<(), AllocError>
     requires { FitsSet row.now.set row.now.portfolio }

@@ -33,7 +33,7 @@ fn push_portfolio(
     Ok(())
 }
 
-// The lines of all accounts, in their order. One account after the other is in memory beside the text.
+// Returns the lines of all accounts, in their order. Only one account at a time is in memory, in addition to the text.
 fn all_lines(
     alloc: Global,
     set: &Arc<CompiledSet>,
@@ -50,7 +50,7 @@ fn all_lines(
     Ok(out)
 }
 
-// The portfolio of the account of a name, if there is one.
+// Returns the portfolio of the account with a name, if there is one.
 fn portfolio_of(portfolios: Vec<Portfolio>, name: &Name) -> Option<Portfolio>
     ensures { result ≡ find (λ p. bytes_eq p.account name.now) portfolios.items }
 {
@@ -59,7 +59,7 @@ fn portfolio_of(portfolios: Vec<Portfolio>, name: &Name) -> Option<Portfolio>
         .find(|portfolio| portfolio.account() == name)
 }
 
-// The lines of the account of a portfolio.
+// Returns the lines of the account of a portfolio.
 fn lines_of(
     alloc: Global,
     set: &Arc<CompiledSet>,
@@ -74,7 +74,7 @@ fn lines_of(
     Ok(out)
 }
 
-// The fault of a name that no account has.
+// Returns the fault of a name that no account has.
 fn unknown(name: &Name) -> SpanFault
     ensures { result ≡ fault.UnknownAccount name.now }
 {
@@ -83,7 +83,7 @@ fn unknown(name: &Name) -> SpanFault
     }
 }
 
-// The lines of all accounts, or of the one of a name.
+// Returns the lines of all accounts, or only of the named one.
 fn explained(
     alloc: Global,
     set: &Arc<CompiledSet>,
@@ -104,8 +104,10 @@ fn explained(
     }
 }
 
-/// The explanation of two files, of all accounts or of the one of a name: the first fault in reading the parameters, checking
-/// them, reading the positions and binding them, and then that the positions do not have the account; or out of memory.
+/// Returns the explanation of two files, for all accounts or only for the named one.
+///
+/// Fails with the first fault in reading the parameters, checking them, reading the positions and binding them. After
+/// these comes the fault that the positions do not have the named account. Also fails if memory runs out.
 #[tactic(auto, unfolding(crate::specs::Explanation::explanation_of))]
 pub fn explain(
     alloc: Global,

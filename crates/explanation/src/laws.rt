@@ -1,5 +1,5 @@
-//! Laws: an explanation has the lines of the statement, and the sums of an account follow from its lines. Each is the contract
-//! of a function that does nothing.
+//! Lemmas: an explanation contains the lines of the statement, and the sums of an account follow from its lines. Each
+//! is the contract of a function that does nothing.
 ghost use Rattle.explanation.specs.Explanation.{account_lines, commodity_lines, explanation_of};
 ghost use Rattle.explanation.specs.Laws.{behind_ids, is_of_statement, lines_read};
 ghost use Rattle.inter_credit.specs.OptionValue.{due_of, excess_of};
@@ -21,9 +21,9 @@ ghost use Rattle.std.specs.Prelude.{flat_map, length, map, pos, true, ℕ};
 
 use reasons::line_laws::{figures_follow_from_the_lines, held_lines_have_each_held_contract};
 
-/// Of an account's lines those with the word R or T are just the lines of its statement. Two files that have a statement have
-/// an explanation of all accounts; it is the lines that are read of its text, cut at line feeds and commas, and of these lines those with
-/// the word R or T are that statement.
+/// The lines of an account with the word R or T are exactly its lines of the statement. Two files that have a statement
+/// have an explanation of all accounts. The explanation is the text of the lines that are read from it, cut at line
+/// feeds and commas. Its lines with the word R or T are the statement.
 pub fn explanations_contain_the_statement()
     ensures account { (t : AcceptedTables) (p : AccountHoldings)
         → flat_map line (filter is_of_statement (account_lines t p)) ≡ row_text t p }
@@ -32,8 +32,9 @@ pub fn explanations_contain_the_statement()
         × (flat_map line (filter is_of_statement (lines_read told)) ≡ text) }
 {}
 
-/// The explanation of one account is that account's lines, which are those that are read of its text, and of which those with the word R
-/// or T are its lines of the statement, as said above; and the positions that do not have the account are refused for that alone.
+/// The explanation of one account is that account's lines, which are also the lines read from its text. Its lines with
+/// the word R or T are its lines of the statement, by [`explanations_contain_the_statement`]. If the positions do not
+/// have the account, this is the fault.
 pub fn an_account_is_explained_by_its_lines()
     ensures one { (params positions name : List ℕ) (t : AcceptedTables) (records : List PositionRecord)
         (portfolios : List AccountHoldings) (p : AccountHoldings) → accepted_of params ≡ Ok t
@@ -52,8 +53,8 @@ pub fn an_account_is_explained_by_its_lines()
         → explanation_of params positions (Some name) ≡ Err (fault.UnknownAccount name) }
 {}
 
-/// The explanation of all accounts is the lines of each account, one account after the other; and these are the lines that are read of its
-/// text, cut at line feeds and commas.
+/// The explanation of all accounts is the lines of each account, one account after another. These are also the lines
+/// read from its text, cut at line feeds and commas.
 pub fn all_accounts_are_explained_by_their_lines()
     ensures all { (params positions : List ℕ) (t : AcceptedTables) (records : List PositionRecord) (portfolios : List AccountHoldings)
         → accepted_of params ≡ Ok t → positions_of positions ≡ Ok records → portfolios_under t records ≡ Ok portfolios
@@ -63,13 +64,14 @@ pub fn all_accounts_are_explained_by_their_lines()
         → lines_read (flat_map line (flat_map (account_lines t) portfolios)) ≡ flat_map (account_lines t) portfolios }
 {}
 
-/// Under accepted files each account has tables within their limits and holdings that fit them, of which the laws over lines speak.
+/// For accepted files, the tables are within their limits and the holdings of each account fit them, as the lemmas
+/// about lines assume.
 pub fn accounts_of_accepted_files_are_accepted()
     ensures { (params : List ℕ) (t : AcceptedTables) (records : List PositionRecord) (portfolios : List AccountHoldings)
         → accepted_of params ≡ Ok t → portfolios_under t records ≡ Ok portfolios → All (λ p. AreAccepted t p.holdings) portfolios }
 {}
 
-/// The lines of a commodity that an account holds end with its R line, whose numbers are those that follow from the lines in front of it.
+/// The lines of a commodity that an account holds end with its R line, whose numbers follow from the lines before it.
 pub fn an_r_line_follows_from_the_lines_in_front()
     ensures { (t : AcceptedTables) (p : AccountHoldings) (c : ℕ) → AreAccepted t p.holdings → c < length t.commodities
         → is_commodity_held t p.holdings c ≡ true
@@ -79,9 +81,9 @@ pub fn an_r_line_follows_from_the_lines_in_front()
     figures_follow_from_the_lines();
 }
 
-/// The lines of an account end with its T line, whose total is the sum of the requirements of the R lines in front of it. If options have
-/// a value, its value is the sum of the values of the HELD lines, its due is its total less its value, and its excess is its value less its
-/// total, each 0 if that is negative.
+/// The lines of an account end with its T line, whose total is the sum of the requirements of the R lines before it. If
+/// options have a value, its value is the sum of the values of the HELD lines. Its due is the total minus the value,
+/// and its excess is the value minus the total, each 0 if that is negative.
 pub fn a_t_line_follows_from_the_lines_in_front()
     ensures total { (t : AcceptedTables) (p : AccountHoldings) → AreAccepted t p.holdings
         → (front : List Line) × ((last : Line) × (account_lines t p ≡ front ++ last ∷ []) × (last.word ≡ codes "T")
@@ -99,20 +101,20 @@ pub fn a_t_line_follows_from_the_lines_in_front()
     held_lines_have_each_held_contract();
 }
 
-/// Files that have no statement have no explanation, of whatever account, and are refused for the same fault.
+/// Files that have no statement have no explanation, for any account, and are rejected with the same fault.
 pub fn faults_of_the_statement_come_first()
     ensures { (params positions : List ℕ) (account : Option (List ℕ)) (e : SpanFault)
         → statement_of params positions ≡ Err e → explanation_of params positions account ≡ Err e }
 {}
 
-/// The total of an account is the sum of the requirements of the commodities that have lines: one of which nothing is held
-/// adds nothing.
+/// The total of an account is the sum of the requirements of the commodities that have lines. A commodity without held
+/// contracts adds nothing.
 pub fn total_is_the_sum_of_the_requirements_shown()
     ensures { (t : AcceptedTables) (p : AccountHoldings) → total_of t p
         ≡ int_sum_by (λ c. (figures_of t p.holdings c).requirement) (numbers_shown t p.holdings) }
 {}
 
-/// Where options have a value, that of an account is the sum of the values of the positions shown.
+/// If options have a value, the option value of an account is the sum of the values of the positions shown.
 pub fn value_is_the_sum_of_the_values_shown()
     ensures { (t : AcceptedTables) (p : AccountHoldings) → (facts_in t).options_have_value ≡ true → option_value_of t p.holdings
         ≡ int_sum_by (values_shown_at t p.holdings) (numbers_shown t p.holdings) }

@@ -1,4 +1,4 @@
-//! Explanations: from the bytes of a parameter file and a position file to the lines that say why each figure is what it is.
+//! Explanations: from the bytes of a parameter file and a position file to the lines that explain each figure.
 #![tactic(auto)]
 
 pub mod accounts;

@@ -1,4 +1,4 @@
-//! Whole files and their explanations, each computed from the bytes of both by the definitions alone.
+//! Whole files and their explanations, each computed from the bytes of both files by the definitions alone.
 #![tactic(auto, unfolding(crate::specs::near::OnLiterals::on_literals))]
 
 ghost use Rattle.explanation.specs.Explanation.{explanation_of};
@@ -19,7 +19,7 @@ fn one_spread()
         ++ codes "R,X,D1,AA,1200,13,500,40,0,0,1740\nT,X,D1,1740\n") }
 {}
 
-// A third of a spread: fractions of four places and of eight, and charges before they are rounded up.
+// A third of a spread: fractions with four and with eight decimal places, and charges before they are rounded up.
 fn part_of_a_spread()
     ensures { explanation_of (spread_and_spot (codes "D1") (codes "250,1,A,3,2,B,3")) (codes "X,FA,1\nX,FA2,-1\n") None
         ≡ Ok (codes "HELD,X,D1,AA,FA,F,202503,1\nHELD,X,D1,AA,FA2,F,202506,-1\n"
@@ -31,7 +31,7 @@ fn part_of_a_spread()
         ++ codes "R,X,D1,AA,0,1,84,11,0,0,95\nT,X,D1,95\n") }
 {}
 
-// A spread between commodities has a line in both, and gives each a credit.
+// A spread between commodities has a line in both, and gives each of them a credit.
 fn two_commodities_with_a_credit()
     ensures { explanation_of (two_commodities fa (codes "5000,AA,A,1,BB,B,1")) (codes "X,FA,1\nX,FB,-1\n") None
         ≡ Ok (codes "HELD,X,D1,AA,FA,F,202503,1\n"
@@ -55,7 +55,7 @@ fn option_values()
         ++ codes "R,X,D2,AA,40,11,0,0,0,1000,1000\nT,X,D2,1000,-240,1240,0\n") }
 {}
 
-// One account of two, whose positions cancel out; and one that has none.
+// An account whose positions cancel out, explained alone, and an account without positions.
 fn one_account()
     ensures nothing_held { explanation_of one_future (codes "Y,FA,1\nX,FA,1\nX,FA,-1\n") (Some (codes "X")) ≡ Ok (codes "T,X,D1,0\n") }
     ensures unknown { explanation_of one_future (codes "Y,FA,1\n") (Some (codes "X")) ≡ Err (fault.UnknownAccount (codes "X")) }

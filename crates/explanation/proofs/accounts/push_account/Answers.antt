@@ -13,7 +13,7 @@ use Rattle.explanation.specs.Explanation.{account_text, commodity_lines}
 use Rattle.explanation.proofs.StatementLaws.{texts_of}
 use Rattle.explanation.proofs.accounts.push_account.Goals as goal
 
--- the lines of an account, once its total is written
+-- the lines of an account, after its total is written
 account_written : (t : AcceptedTables) (p : AccountHoldings) (o o1 o2 : List ℕ)
     → o1 ≡ o ++ flat_map (λ c. flat_map line (commodity_lines t p c)) (range_with_len 0 (length t.commodities))
     → o2 ≡ o1 ++ line (total_line p.account t.set_id (total_numbers t (total_of t p) (option_value_of t p.holdings)))

@@ -19,7 +19,7 @@ use Rattle.statement_text.specs.Statement.{commodity_text, figures_line}
 use Rattle.explanation.specs.Explanation.{commodity_lines, reason_line}
 use Rattle.explanation.proofs.accounts.push_commodity.Goals as goal
 
--- the lines of a commodity that is held
+-- the lines of a held commodity, after its figures are written
 commodity_written : (t : AcceptedTables) (p : AccountHoldings) (c : ℕ) (ids : List Field) (o o1 o2 : List ℕ)
     → is_commodity_held t p.holdings c ≡ true → map field_text ids ≡ p.account ∷ t.set_id ∷ (commodity_at t c).id ∷ []
     → o1 ≡ o ++ reasons_text ids (reasons_of t p.holdings c) → o2 ≡ o1 ++ commodity_text t p c
