@@ -1,4 +1,4 @@
--- The portfolio of the account of an order before it, and an order that adds up to 0.
+-- The portfolio of an order's account before the order, and orders that add up to 0.
 use Rattle.std.proofs.Common.{◌++◌, map, filter, arith, ◌≡◌, ◌∙◌, ℕ, Bool, true}
 use Rattle.std.proofs.Common.{false, cond, List, [], ◌∷◌, Some, None, refl, sym, ap}
 use Rattle.std.specs.Prelude.{bytes_eq, find, option_map, unwrap_or}
@@ -16,7 +16,7 @@ use Rattle.binding.specs.OrderBinding.{holdings_after, holdings_before, tried_or
 use Rattle.span_tables.proofs.NameLemmas.{same_name}
 use Rattle.span_tables.specs.declared.portfolios.Holding.{Holding}
 
--- a portfolio that is found is of the account
+-- a portfolio that is found belongs to the account
 found_of : (portfolios : List AccountHoldings) (account : List ℕ) (p : AccountHoldings)
     → find (λ q. bytes_eq q.account account) portfolios ≡ Some p → p.account ≡ account
 found_of [] account p e = cc
@@ -28,7 +28,7 @@ found_of (q ∷ portfolios) account p e = by_test (bytes_eq q.account account) r
       let first : q ≡ p = cc in ap (λ (r : AccountHoldings). r.account) (sym first) ∙ same_name q.account account is
   by_test false is later found = later found
 
--- the portfolio of an account is the one that is found, where there is one
+-- the portfolio of an account is the one that is found, if there is one
 pub found_is : (portfolios : List AccountHoldings) (account : List ℕ) (holdings : List Holding) (p : AccountHoldings)
     → holdings ≡ holdings_among portfolios account
     → find (λ q. bytes_eq q.account account) portfolios ≡ Some p
@@ -38,14 +38,14 @@ found_is portfolios account holdings p among found =
     let named = found_of portfolios account p found in
     λ k. record { account = sym named k; holdings = holds k }
 
--- the portfolio before an order is that of its account among the portfolios that it is tried on
+-- the portfolio before an order is the portfolio of its account among the given portfolios
 pub before_is : (contracts : List Contract) (portfolios : List AccountHoldings) (records : List OrderRecord) (order : List ℕ)
     (p : AccountHoldings) → find (λ q. bytes_eq q.account (account_of_order records order)) portfolios ≡ Some p
     → (tried_order contracts portfolios records order).before ≡ p
 before_is contracts portfolios records order p found =
     found_is portfolios (account_of_order records order) (holdings_before portfolios records order) p refl found
 
--- and it holds nothing, where the account has none
+-- the portfolio before an order holds nothing if its account has none
 pub before_is_nothing : (contracts : List Contract) (portfolios : List AccountHoldings) (records : List OrderRecord) (order : List ℕ)
     → find (λ q. bytes_eq q.account (account_of_order records order)) portfolios ≡ None
     → (tried_order contracts portfolios records order).before.holdings ≡ []
@@ -54,7 +54,7 @@ before_is_nothing contracts portfolios records order none =
 
 -- ---- an order that adds up to 0
 
--- where each net is the same, so is each holding
+-- if all nets are the same, all holdings are the same
 pub same_nets : (these those : List PositionRecord) (account : List ℕ)
     → ((contract : List ℕ) → net_of these account contract ≡ net_of those account contract)
     → (xs : List (ℕ × Contract)) → map (holding_of these account) xs ≡ map (holding_of those account) xs

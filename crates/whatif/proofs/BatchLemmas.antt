@@ -1,4 +1,4 @@
--- The orders of a batch, and the rows after them.
+-- The orders of a batch, and the rows after these orders.
 use Rattle.std.proofs.Common.{◌≡◌, ◌∙◌, ℕ, ◌+◌, ◌≤◌, ◌<◌, Global, List, drop, get_or, length, map, refl, sym, ap, subst, take, arith}
 use Rattle.std.specs.Prelude.{All}
 use Rattle.std.specs.Arc.{arc_value}
@@ -20,7 +20,7 @@ use Rattle.whatif.proofs.TextLemmas.{by_number}
 abbrev pub batch_of : TriedOrders → ℕ → ℕ → List TriedOrder
 batch_of tried first n = take n (drop first tried.orders)
 
--- what holds of what all accounts hold after their orders holds of those of a batch
+-- if P is true of all portfolios after their orders, it is true of the portfolios of a batch
 pub batch_holds : (P : AccountHoldings → Type 0) (tried : TriedOrders) (first n : ℕ) (portfolios : List AccountHoldings)
     → portfolios ≡ map (λ o. o.after) (batch_of tried first n) → All (λ o. P o.after) tried.orders → All P portfolios
 batch_holds P tried first n portfolios are all =

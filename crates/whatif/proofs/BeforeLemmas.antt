@@ -1,4 +1,4 @@
--- The numbers of what each order has before it, from the rows of the portfolios that are chosen.
+-- The numbers of each account before its order, from the rows of the chosen portfolios.
 use Rattle.std.proofs.Common.{refl, sym, ap, ◌≡◌, ◌∙◌, ℕ, zero, suc, ◌<◌, List, [], ◌∷◌, ◌++◌, drop, take, length, subst, arith}
 use Rattle.std.proofs.Common.{append_assoc}
 use Rattle.std.specs.Prelude.{Some, slice_get, slice_index_or}
@@ -16,7 +16,7 @@ use Rattle.whatif.specs.near.Numbers.{AreNumbers, AreOfRow, order_at}
 use Rattle.whatif.specs.declared.befores.Befores.{Befores}
 use Rattle.whatif.specs.declared.numbers.Numbers.{Numbers}
 
--- numbers at a slot
+-- the numbers at a slot are the numbers of these holdings
 pub record AreAt (t : AcceptedTables) (all : List Numbers) (slot : ℕ) (holdings : List Holding) : Type 0 where
   pub in_range : slot < length all
   pub each : (numbers : Numbers) → slice_get all slot ≡ Some numbers → AreNumbers t holdings numbers
@@ -50,7 +50,7 @@ module _ (set : SetView) where
         each = λ i lt. (at i lt).each;
       }
 
-  -- numbers of some portfolios and then of others
+  -- the numbers of two lists of portfolios, concatenated
   numbers_joined : (some others : List AccountHoldings) (these those : List Numbers) → AllZip AreOfRow (rows_of_accounts set some) these
       → AllZip AreOfRow (rows_of_accounts set others) those → AllZip AreOfRow (rows_of_accounts set (some ++ others)) (these ++ those)
   numbers_joined [] others [] those first rest = rest
@@ -58,11 +58,11 @@ module _ (set : SetView) where
   numbers_joined (p ∷ some) others [] those first rest = absurd first
   numbers_joined (p ∷ some) others (n ∷ these) those first rest = (first.0, numbers_joined some others these those first.1 rest)
 
-  -- before any is margined
+  -- before any portfolio is margined
   pub none_margined : (all : List AccountHoldings) → AreMargined set all all []
   none_margined all = record { done = []; parts = refl; each = tt }
 
-  -- some of those that are left are margined too
+  -- after some of the portfolios that were left are margined
   pub more_margined : (all left some rest : List AccountHoldings) (n : ℕ) (these those numbers : List Numbers)
       → AreMargined set all left these → some ≡ take n left → rest ≡ drop n left → AllZip AreOfRow (rows_of_accounts set some) those
       → numbers ≡ these ++ those → AreMargined set all rest numbers
@@ -75,7 +75,7 @@ module _ (set : SetView) where
         (numbers_joined m.done some these those m.each more);
   }
 
-  -- all are margined where none is left
+  -- all portfolios are margined if none is left
   pub all_margined : (all left : List AccountHoldings) (numbers : List Numbers) → AreMargined set all left numbers → left ≡ []
       → AllZip AreOfRow (rows_of_accounts set all) numbers
   all_margined all left numbers m none =

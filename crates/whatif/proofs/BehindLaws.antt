@@ -1,4 +1,5 @@
--- The records of an order behind those of the positions: they are accepted, and the order's account is among their portfolios.
+-- The records of an order appended to the position records: they are accepted, and the order's account is among their
+-- portfolios.
 use Rattle.std.proofs.Common.{◌≡◌, ◌∙◌, ℕ, zero, suc, ◌≤◌, Bool, true, false, cond, ◌&&◌, ◌||◌, List, [], ◌∷◌, ◌++◌}
 use Rattle.std.proofs.Common.{filter, get_or, length, map, Option, Some, None, Ok, Err, Result, refl, sym, ap, subst, arith}
 use Rattle.std.specs.Prelude.{All, bytes_eq, find, nat_abs, nat_lt, option_map, pos, slice_get, unwrap_or}
@@ -44,15 +45,15 @@ use Rattle.statement_text.specs.Statement.{accepted_of, and_then, portfolios_und
 use Rattle.statement_text.specs.declared.faults.SpanFault.TheVariants as fault
 use Rattle.whatif.proofs.AccountLaws.{same_nets}
 
--- ---- what outcomes without a fault say
+-- ---- what outcomes without a fault imply
 
--- no two contracts of tables whose records keep the rules have one id
+-- no two contracts have the same id in tables whose records keep the rules
 tables_apart : (records : List Record) → keeps_rules records ≡ true
     → has_repeat (λ x y. bytes_eq x.id y.id) (tables_of records).contracts ≡ false
 unfolding tables_of
 tables_apart records keeps = (kept records keeps).contracts_apart
 
--- nor have two of those of checked records
+-- no two contracts have the same id in the tables of checked records
 checked_apart : (records : List Record) (t : AcceptedTables)
     → and_then fault.Check (checked records) (λ tables. Ok tables) ≡ Ok t
     → has_repeat (λ x y. bytes_eq x.id y.id) t.contracts ≡ false
@@ -67,7 +68,7 @@ checked_apart records t e = by (check_fault records) refl e where
       subst (λ (tables : AcceptedTables). has_repeat (λ x y. bytes_eq x.id y.id) tables.contracts ≡ false) same
       (tables_apart records (rules_kept records is))
 
--- nor have two of those of accepted tables
+-- no two contracts have the same id in accepted tables
 ids_apart : (params : List ℕ) (t : AcceptedTables) → accepted_of params ≡ Ok t
     → has_repeat (λ x y. bytes_eq x.id y.id) t.contracts ≡ false
 unfolding accepted_of
@@ -78,7 +79,7 @@ ids_apart params t e = by (params_of params) e where
   by (Err f) e = cc
   by (Ok records) e = checked_apart records t e
 
--- positions that have portfolios have no fault, and these are the portfolios
+-- positions that have portfolios have no fault, and their portfolios are these
 bound_are : (t : AcceptedTables) (positions : List PositionRecord) (portfolios : List AccountHoldings)
     → portfolios_under t positions ≡ Ok portfolios
     → (bind_fault t.contracts positions ≡ None) × (portfolios_of t.contracts positions ≡ portfolios)
@@ -90,7 +91,7 @@ bound_are t positions portfolios e = by (bind_fault t.contracts positions) refl 
   by (Some f) is e = cc
   by None is e = (is, cc)
 
--- positions without a fault have their portfolios
+-- positions without a fault have portfolios
 are_bound : (t : AcceptedTables) (positions : List PositionRecord) → bind_fault t.contracts positions ≡ None
     → portfolios_under t positions ≡ Ok (portfolios_of t.contracts positions)
 unfolding portfolios_under bindings_of
@@ -107,7 +108,7 @@ orders_fit contracts portfolios records tried e = by (order_bind_fault contracts
   by (Some f) e = cc
   by None e = refl
 
--- what each account holds by positions without a fault is a portfolio
+-- the holdings of each account are a portfolio if the positions have no fault
 portfolios_hold : (contracts : List Contract) (positions : List PositionRecord) → bind_fault contracts positions ≡ None
     → All (λ p. ArePortfolio p.holdings) (portfolios_of contracts positions)
 unfolding portfolios_of
@@ -121,14 +122,14 @@ portfolios_hold contracts positions none =
     portfolio_holds contracts positions name (fit_of_none contracts positions none).within
     (few_held contracts positions none name among))
 
--- a test that finds no element fails at each
+-- if no element passes a test, each element fails it
 none_of_any : {X : Type 0} (test : X → Bool) (xs : List X) → list_any test xs ≡ false → All (λ x. test x ≡ false) xs
 none_of_any test xs e = λ k d lt.
     false_from_ne_true (test (get_or xs k d)) (λ found. true≢false (sym (list_any_at test xs k d lt found) ∙ e))
 
--- ---- records of one account behind others
+-- ---- records of one account appended to others
 
--- records of one account add nothing to the nets of others
+-- records of one account add nothing to the nets of other accounts
 nothing_of_others : (more : List PositionRecord) (account name contract : List ℕ) → All (λ p. p.account ≡ account) more
     → bytes_eq account name ≡ false → net_of more name contract ≡ pos 0
 nothing_of_others [] account name contract one apart = refl
@@ -138,7 +139,7 @@ nothing_of_others (p ∷ more) account name contract one apart =
     ap (λ b. int_sum_by (λ (q : PositionRecord). q.quantity) (cond (b && bytes_eq p.contract contract) (p ∷ rest) rest)) here
     ∙ nothing_of_others more account name contract (λ k d lt. one (suc k) d (omega (arith, lt))) apart
 
--- the place of a contract that there is
+-- the index of a contract that exists
 place_of : (name : List ℕ) (contracts : List Contract) → list_any (λ x. bytes_eq x.id name) contracts ≡ true
     → (k : ℕ) × (x : Contract) × (slice_get contracts k ≡ Some x) × (x.id ≡ name)
 place_of name [] e = absurd (false≢true e)
@@ -152,7 +153,7 @@ place_of name (x ∷ contracts) e = by (bytes_eq x.id name) refl e (place_of nam
 
 module _ (contracts : List Contract) (positions more : List PositionRecord) (account : List ℕ)
     (one : All (λ p. p.account ≡ account) more) where
-  -- the nets of other accounts stay
+  -- the nets of other accounts do not change
   other_net : (name contract : List ℕ) → bytes_eq name account ≡ false
       → net_of (positions ++ more) name contract ≡ net_of positions name contract
   other_net name contract apart =
@@ -160,7 +161,7 @@ module _ (contracts : List Contract) (positions more : List PositionRecord) (acc
       let nothing = nothing_of_others more account name contract one (bytes_eq-flip account name ∙ apart) in
       omega (arith, ints, sum, nothing)
 
-  -- and so does what they hold
+  -- the holdings of other accounts do not change
   other_holdings : (name : List ℕ) → bytes_eq name account ≡ false
       → holdings_of contracts (positions ++ more) name ≡ holdings_of contracts positions name
   other_holdings name apart =
@@ -168,7 +169,7 @@ module _ (contracts : List Contract) (positions more : List PositionRecord) (acc
       (enumerate_from 0 contracts))
 
   module _ (holds : ArePortfolio (holdings_of contracts (positions ++ more) account)) where
-    -- the account's net in a contract that there is
+    -- the account's net in a contract that exists is within its limit
     account_within : (name : List ℕ) → list_any (λ x. bytes_eq x.id name) contracts ≡ true
         → nat_abs (net_of (positions ++ more) account name) ≤ MAX_NET
     account_within name known =
@@ -191,13 +192,13 @@ module _ (contracts : List Contract) (positions more : List PositionRecord) (acc
               subst (λ n. nat_abs n ≤ MAX_NET) (sym (other_net p.account p.contract is))
               (nets_within contracts positions none p.account p.contract)
 
-    -- the account holds no more contracts than it may
+    -- the account holds no more contracts than allowed
     few_of : (p : PositionRecord) → p.account ≡ account → exceeds_held contracts (positions ++ more) p ≡ false
     few_of p is =
         ap (λ name. nat_lt MAX_HELD (length (holdings_of contracts (positions ++ more) name))) is
         ∙ le-ltb MAX_HELD (length (holdings_of contracts (positions ++ more) account)) holds.few
 
-    -- nor does another account, where it held no more before
+    -- no record's account holds more contracts than allowed, if none did before
     few_at : (p : PositionRecord) → exceeds_held contracts positions p ≡ false
         → exceeds_held contracts (positions ++ more) p ≡ false
     few_at p few = by (bytes_eq p.account account) refl where
@@ -205,7 +206,7 @@ module _ (contracts : List Contract) (positions more : List PositionRecord) (acc
       by true is = few_of p (same_name p.account account is)
       by false is = ap (λ holdings. nat_lt MAX_HELD (length holdings)) (other_holdings p.account is) ∙ few
 
-    -- records of an account that holds a portfolio with them have no fault behind others that have none
+    -- records of an account whose holdings with them are a portfolio have no fault after positions without a fault
     none_behind : bind_fault contracts positions ≡ None → list_any (is_unknown contracts) more ≡ false
         → bind_fault contracts (positions ++ more) ≡ None
     none_behind none known =
@@ -226,13 +227,13 @@ module _ (contracts : List Contract) (positions more : List PositionRecord) (acc
               (All-weaker (λ p. p.account ≡ account) Few few_of more one));
         })
 
--- ---- the records of an order behind those of the positions
+-- ---- the records of an order appended to the position records
 
 module _ (records : List OrderRecord) (order : List ℕ) where
   abbrev mine : List OrderRecord
   mine = filter (λ r. bytes_eq r.order order) records
 
-  -- they are of its account
+  -- the records of an order are of its account
   of_account : All (λ r. r.account ≡ account_of_order records r.order) records
       → All (λ p. p.account ≡ account_of_order records order) (positions_of_order records order)
   of_account one =
@@ -242,7 +243,7 @@ module _ (records : List OrderRecord) (order : List ℕ) where
       All-map (λ (p : PositionRecord). p.account ≡ account_of_order records order) as_position mine (λ k d lt.
       kept_of k d lt ∙ ap (account_of_order records) (same_name (get_or mine k d).order order (named k d lt)))
 
-  -- they are of contracts that there are
+  -- the records of an order are in contracts that exist
   of_known : (contracts : List Contract) → list_any (is_of_unknown contracts) records ≡ false
       → list_any (is_unknown contracts) (positions_of_order records order) ≡ false
   of_known contracts known =
@@ -251,7 +252,7 @@ module _ (records : List OrderRecord) (order : List ℕ) where
       (All-filter (λ (r : OrderRecord). bytes_eq r.order order) (λ (r : OrderRecord). is_of_unknown contracts r ≡ false) records
       (none_of_any (is_of_unknown contracts) records known)))
 
--- the records of an order that is accepted have no fault behind those of the positions that it is tried on
+-- the records of an accepted order have no fault when appended to the position records
 order_behind : (contracts : List Contract) (positions : List PositionRecord) (records : List OrderRecord) (order : List ℕ)
     → has_repeat (λ x y. bytes_eq x.id y.id) contracts ≡ false → bind_fault contracts positions ≡ None
     → All (λ r. r.account ≡ account_of_order records r.order) records
@@ -266,7 +267,7 @@ order_behind contracts positions records order apart none one fits among =
     (of_account records order one) holds none
     (of_known records order contracts (accepted_known contracts portfolios records fits))
 
--- so they are accepted there
+-- the records of an accepted order are accepted when appended to the position records
 pub accepted_behind : (params : List ℕ) (t : AcceptedTables) (positions : List PositionRecord) (portfolios : List AccountHoldings)
     (records : List OrderRecord) (tried : TriedOrders) (order : List ℕ) → accepted_of params ≡ Ok t
     → portfolios_under t positions ≡ Ok portfolios → All (λ r. r.account ≡ account_of_order records r.order) records
@@ -281,7 +282,7 @@ accepted_behind params t positions portfolios records tried order accepted bound
 
 -- ---- the portfolio of an order's account
 
--- an account among some names has its portfolio among theirs
+-- an account among some names has its portfolio among the portfolios of these names
 found_among : (held : List ℕ → List Holding) (account : List ℕ) (names : List (List ℕ)) → is_among names account ≡ true
     → find (λ (q : AccountHoldings). bytes_eq q.account account) (map (λ name. record { account = name; holdings = held name }) names)
     ≡ Some (record { account = account; holdings = held account })
@@ -301,7 +302,7 @@ found_among held account (x ∷ names) among = by (bytes_eq account x) refl amon
       ∙ ap (λ name. Some (portfolio name)) (sym (same_name account x is))
   by false is among more = ap (λ b. cond b (Some (portfolio x)) others) (bytes_eq-flip x account ∙ is) ∙ more among
 
--- an account of the positions has its portfolio among theirs
+-- an account of the positions has its portfolio among the portfolios of the positions
 portfolio_found : (contracts : List Contract) (positions : List PositionRecord) (account : List ℕ)
     → is_among (map (λ p. p.account) positions) account ≡ true
     → find (λ q. bytes_eq q.account account) (portfolios_of contracts positions)
@@ -311,7 +312,7 @@ portfolio_found contracts positions account among =
     found_among (holdings_of contracts positions) account (accounts_of positions)
     (is_among-distinct (map (λ (p : PositionRecord). p.account) positions) account ∙ among)
 
--- the account of an order is that of one of its records
+-- the account of an order is the account of one of its records
 account_among : (records : List OrderRecord) (order : List ℕ) → is_among (map (λ r. r.order) records) order ≡ true
     → is_among (map (λ p. p.account) (positions_of_order records order)) (account_of_order records order) ≡ true
 account_among [] order among = absurd (false≢true among)
@@ -334,7 +335,7 @@ account_among (r ∷ records) order among = by (bytes_eq r.order order) refl amo
       more (sym (ap (λ b. b || is_among (map (λ (q : OrderRecord). q.order) records) order) (bytes_eq-flip order r.order ∙ is))
       ∙ among)
 
--- after an order its account has the portfolio that it has with the order's records behind those of the positions
+-- the portfolio after an order is the account's portfolio from the position records with the order's records appended
 pub after_found : (t : AcceptedTables) (positions : List PositionRecord) (portfolios : List AccountHoldings)
     (records : List OrderRecord) (order : List ℕ) → portfolios_under t positions ≡ Ok portfolios
     → is_among (orders_in records) order ≡ true

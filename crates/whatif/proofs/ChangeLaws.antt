@@ -1,4 +1,4 @@
--- What the changes of an order add up to, and where there are none.
+-- The sum of the changes of an order, and when there are no changes.
 use Rattle.std.proofs.Common.{◌≡◌, ◌∙◌, ℕ, Bool, true, false, cond, List}
 use Rattle.std.proofs.Common.{[], ◌∷◌, ◌++◌, filter, flat_map, length, refl, sym, ap, arith}
 use Rattle.std.specs.Prelude.{not, ℤ, pos, ◌-ℤ◌}
@@ -36,7 +36,7 @@ module _ (f g : ℕ → ℤ) where
   difference_if true c e = refl
   difference_if false c e = let same = same_if (f c) (g c) e in omega (arith, ints, same)
 
-  -- the sum of the differences of those that differ
+  -- the sum of the differences where two values differ is the difference of the sums
   sum_of_differences : (xs : List ℕ)
       → int_sum_by difference (filter apart xs) ≡ int_sum_by g xs -ℤ int_sum_by f xs
   sum_of_differences [] = refl
@@ -65,7 +65,7 @@ module _ (t : AcceptedTables) (o : TriedOrder) where
       none_differ (requirement_at t o.before) (requirement_at t o.after)
       (λ c. ap (λ holdings. (figures_of t holdings c).requirement) (sym same)) (range_with_len 0 (length t.commodities))
 
-  -- the last line alone
+  -- an order that changes no holding has only its last line
   pub line_alone : o.after.holdings ≡ o.before.holdings → order_text t o ≡ line (order_line t o)
   unfolding order_text
   line_alone same = ap (λ cs. flat_map (λ c. line (change_line t o c)) cs ++ line (order_line t o)) (nothing_changes same)

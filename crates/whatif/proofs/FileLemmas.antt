@@ -1,4 +1,4 @@
--- What three files say, and the faults that they may have.
+-- The contents of three files, and their faults.
 use Rattle.std.proofs.Common.{◌≡◌, ℕ, List, Bool, true, false, length, map, Option, Some, None, Ok}
 use Rattle.std.proofs.Common.{Err, Result, refl, sym, ap, subst, inl, inr, ◌∙◌, ◌<◌, arith, get_or}
 use Rattle.std.specs.Prelude.{All, if◌then◌else◌, ◌==◌, ◌||◌, ◌⊎◌, nat_lt}
@@ -38,13 +38,13 @@ bound_is contracts portfolios all tried e = by_fault (order_bind_fault contracts
   by_fault (Some f) e = cc
   by_fault None e = cc
 
--- they are tried on these portfolios
+-- the orders are evaluated on these portfolios
 pub bound_portfolios : (contracts : List Contract) (portfolios : List AccountHoldings) (all : List OrderRecord) (tried : TriedOrders)
     → orders_bound contracts portfolios all ≡ Ok tried → tried.portfolios ≡ portfolios
 bound_portfolios contracts portfolios all tried e =
     ap (λ (found : TriedOrders). found.portfolios) (sym (bound_is contracts portfolios all tried e))
 
--- what their accounts hold with them is of contracts that there are
+-- the holdings of the accounts after their orders are in contracts that exist
 pub bound_orders_fit : (contracts : List Contract) (portfolios : List AccountHoldings) (all : List OrderRecord) (tried : TriedOrders)
     → orders_bound contracts portfolios all ≡ Ok tried → All (λ o. fits (length contracts) o.after.holdings ≡ true) tried.orders
 bound_orders_fit contracts portfolios all tried e =
@@ -59,14 +59,14 @@ bound_orders_fit contracts portfolios all tried e =
 -- ---- three files
 
 module _ (params positions orders : List ℕ) where
-  -- of accepted files, what is tried on their tables and portfolios
+  -- for accepted files, the result is the result for their tables and portfolios
   pub accepted_tried : (t : AcceptedTables) (records : List PositionRecord) (portfolios : List AccountHoldings)
       → accepted_of params ≡ Ok t → positions_of positions ≡ Ok records → portfolios_under t records ≡ Ok portfolios
       → tried_of params positions orders ≡ tried_on t portfolios orders
   unfolding tried_of
   accepted_tried t records portfolios a q b = rw (a, q, b) refl
 
-  -- the fault of a statement is that of orders that are tried on it
+  -- if the statement has a fault, the orders have the same fault
   pub faults_tried : (e : SpanFault) → statement_of params positions ≡ Err e → tried_of params positions orders ≡ Err e
   unfolding statement_of statement_under statement_bound tried_of
   faults_tried e is =
@@ -74,7 +74,7 @@ module _ (params positions orders : List ℕ) where
       fault_stays fault.Positions (positions_of positions) _ _ e (λ records.
       fault_stays same (portfolios_under t records) _ _ e (λ portfolios h. cc))) is
 
--- ---- on so many workers
+-- ---- with a number of workers
 
 if_allowed : {A : Type 0} (none many : Bool) (answer : Result A SpanFault) → none ≡ false → many ≡ false
     → (if none || many then Err fault.Workers else answer) ≡ answer
@@ -83,7 +83,7 @@ if_allowed false true answer h k = cc
 if_allowed false false answer h k = refl
 
 module _ (workers : ℕ) (params positions orders : List ℕ) (some : 0 < workers) (few : workers < 17) where
-  -- a number of workers that is not refused
+  -- with 1 to 16 workers, the result does not depend on the number of workers
   pub allowed : whatif_of workers params positions orders ≡ tried_of params positions orders
   unfolding whatif_of
   allowed =
@@ -91,7 +91,7 @@ module _ (workers : ℕ) (params positions orders : List ℕ) (some : 0 < worker
       let other : nat_lt MAX_WORKERS workers ≡ false = grind (arith, nat_tests, few) in
       if_allowed (workers == 0) (nat_lt MAX_WORKERS workers) (tried_of params positions orders) one other
 
-  -- what refuses the statement refuses
+  -- a fault of the statement is a fault of the result
   pub first_refuses : (e : SpanFault) → (e ≡ fault.Memory) ⊎ ((is_memory e ≡ false) × (statement_of params positions ≡ Err e))
       → (e ≡ fault.Memory) ⊎ ((is_memory e ≡ false) × (whatif_of workers params positions orders ≡ Err e))
   first_refuses e (inl memory) = inl memory
@@ -103,15 +103,15 @@ module _ (workers : ℕ) (params positions orders : List ℕ) (some : 0 < worker
     pub on_accepted : whatif_of workers params positions orders ≡ tried_on t portfolios orders
     on_accepted = allowed ∙ accepted_tried params positions orders t records portfolios accepted read bound
 
-    -- and so does what refuses the orders
+    -- a fault of the orders is a fault of the result
     pub orders_refuse : (e : SpanFault) → (e ≡ fault.Memory) ⊎ ((is_memory e ≡ false) × (tried_on t portfolios orders ≡ Err e))
         → (e ≡ fault.Memory) ⊎ ((is_memory e ≡ false) × (whatif_of workers params positions orders ≡ Err e))
     orders_refuse e (inl memory) = inl memory
     orders_refuse e (inr named) = inr (named.0, on_accepted ∙ named.1)
 
--- ---- no fault of files says that there are too many workers
+-- ---- no fault of files is the fault of too many workers
 
--- what follows an outcome has a fault where neither its fault nor what follows its value has it: never
+-- a chain of outcomes never has a fault that neither its first outcome nor the rest has
 never : {A B F : Type 0} (bad : SpanFault) (named : F → SpanFault) (r : Result A F) (next : A → Result B SpanFault)
     → ((f : F) → r ≡ Err f → named f ≡ bad → ⊥) → ((x : A) → next x ≡ Err bad → ⊥) → and_then named r next ≡ Err bad → ⊥
 never bad named (Ok x) next first rest is = rest x is
@@ -124,7 +124,7 @@ on_never_workers t portfolios orders is =
     never fault.Workers fault.Orders (orders_of orders) _ (λ f h e. cc) (λ records.
     never fault.Workers fault.BindOrders (orders_bound t.contracts portfolios records) _ (λ f h e. cc) (λ tried h. cc)) is
 
--- a call that gives what a definition has, which never says so, does not say so
+-- a call with the result of a definition never has the fault `Workers` if the definition never has it
 pub gives_no_workers : {Y Z : Type 0} (said : Y → Z) (r : Result Y SpanFault) (answer : Result Z SpanFault) → Gives said r answer
     → (answer ≡ Err fault.Workers → ⊥) → r ≡ Err fault.Workers → ⊥
 gives_no_workers said (Ok y) answer gives none e = cc

@@ -14,7 +14,7 @@ use Rattle.step_scheduler.proofs.NothingLemmas.{figures_of_nothing, no_value}
 use Rattle.statement_text.specs.Statement.{total_of}
 use Rattle.whatif.specs.Whatif.{due_at, requirement_at}
 
--- a sum of nothing but 0
+-- a sum of zeros is 0
 sum_of_none : (f : ℕ → ℤ) (end : ℕ) → ((c : ℕ) → c < end → f c ≡ pos 0) → (a n : ℕ) → end ≡ a + n
     → int_sum_by f (range_with_len a n) ≡ pos 0
 sum_of_none f end none a zero to = refl
@@ -32,7 +32,7 @@ none_held (h ∷ held) e =
     cc
 
 module _ (t : AcceptedTables) where
-  -- a commodity of which nothing is held has no requirement
+  -- a commodity without held contracts has no requirement
   pub unheld_requires_nothing : (p : AccountHoldings) (c : ℕ) → c < length t.commodities → is_commodity_held t p.holdings c ≡ false
       → requirement_at t p c ≡ pos 0
   unheld_requires_nothing p c lt unheld =

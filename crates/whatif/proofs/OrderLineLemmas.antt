@@ -1,4 +1,4 @@
--- The lines of an order between the numbers before it and the row after it.
+-- The lines of an order, from the numbers before it and the row after it.
 use Rattle.std.proofs.Common.{◌≡◌, ◌∙◌, ℕ, Bool, true, false, cond, List, [], ◌∷◌, flat_map, length, refl, sym}
 use Rattle.std.specs.Prelude.{not, ℤ}
 use Rattle.std.specs.List.{range_with_len}
@@ -11,7 +11,7 @@ use Rattle.whatif.specs.Whatif.{change_line, changed_by, changes, requirement_at
 use Rattle.whatif.specs.near.Numbers.{change_text, changed_text}
 use Rattle.whatif.proofs.TextLemmas.{flat_map-filter}
 
--- the line of a commodity whose requirement changes, from its ids and the requirements
+-- the line of a commodity whose requirement changes, from its ids and its requirements before and after
 pub changed_shown : (t : AcceptedTables) (o : TriedOrder) (c : ℕ) (ids : List (List ℕ)) (before after : ℤ)
     → ids ≡ o.order ∷ o.after.account ∷ t.set_id ∷ (commodity_at t c).id ∷ []
     → before ≡ requirement_at t o.before c → after ≡ requirement_at t o.after c
@@ -23,7 +23,7 @@ changed_shown t o c ids before after named from to =
       by_test true = refl
       by_test false = refl
 
--- the lines of all commodities are those of the ones that change
+-- the lines of all commodities are the lines of the commodities that change
 pub all_changes : (t : AcceptedTables) (o : TriedOrder)
     → flat_map (change_text t o) (range_with_len 0 (length t.commodities)) ≡ flat_map (λ c. line (change_line t o c)) (changed_by t o)
 all_changes t o = sym (flat_map-filter (changes t o) (λ c. line (change_line t o c)) (range_with_len 0 (length t.commodities)))

@@ -1,4 +1,4 @@
--- Portfolios that are chosen once, each at the slot that its place is marked with.
+-- Portfolios that are chosen once each, at the slot with which their index is marked.
 use Rattle.std.proofs.Common.{◌≡◌, ◌∙◌, ◌≢◌, ℕ, zero, suc, ◌<◌, List, [], ◌∷◌}
 use Rattle.std.proofs.Common.{◌++◌, length, get_or, set, refl, sym, ap, subst, arith, inl, inr}
 use Rattle.std.specs.Prelude.{All, Option, Some, None, option_map, slice_get}
@@ -24,7 +24,7 @@ slice_get-last (y ∷ xs) x zero e = absurd (omega (arith, e))
 slice_get-last (y ∷ xs) x (suc k) e = slice_get-last xs x k (omega (arith, e))
 
 module _ {X Y : Type 0} (f : X → Y) where
-  -- what stands at a slot stays there where others come behind it
+  -- an element at a slot stays there if others are appended
   pub kept_at : (xs more : List X) (k : ℕ) (y : Y) → option_map f (slice_get xs k) ≡ Some y
       → option_map f (slice_get (xs ++ more) k) ≡ Some y
   kept_at xs more k y e = by_found (slice_get xs k) refl e where
@@ -51,7 +51,7 @@ module _ (all chosen : List AccountHoldings) (marks : List ℕ) (place : ℕ) (x
   same_mark : get_or now place 0 ≡ length chosen
   same_mark = get_or-set_same marks place (length chosen) 0 (omega (arith, every, lt))
 
-  -- the place that is chosen is marked
+  -- the index that is chosen is marked
   pub newly_marked : IsMarked all (chosen ++ x ∷ []) now place
   newly_marked = record {
     in_range = let count = length-append chosen (x ∷ []) in omega (arith, same_mark, count);
@@ -73,20 +73,20 @@ module _ (all chosen : List AccountHoldings) (marks : List ℕ) (place : ℕ) (x
         found : get_or marks q 0 < length chosen → slice_get chosen (get_or marks q 0) ≡ Some y
         found in_range = slice_get-get_or chosen (get_or marks q 0) x in_range
 
-  -- and each other one as it was
+  -- each other index is marked as before
   pub still_marked : (q : ℕ) → get_or now q 0 ≢ 0 → IsMarked all (chosen ++ x ∷ []) now q
   still_marked q some = elim (cases_eq q place) [
     | inl same ↦ subst (IsMarked all (chosen ++ x ∷ []) now) (sym same) newly_marked
     | inr apart ↦ other q apart some
   ]
 
--- what holds of all holds of one of them alone
+-- if P is true of all elements, it is true of a list of one of them
 pub all_one : {X : Type 0} (P : X → Type 0) (x : X) (all : List X) (place : ℕ) → x ≡ get_or all place x → place < length all → All P all
     → All P (x ∷ [])
 all_one P x all place is lt of_all zero d within = subst P (sym is) (of_all place x lt)
 all_one P x all place is lt of_all (suc k) d within = absurd (omega (arith, within))
 
--- the orders so far have their slots among more portfolios, and the next order has its own
+-- the orders so far keep their slots after portfolios are appended, and the next order gets its own slot
 pub slots_more : (chosen later : List AccountHoldings) (tried : TriedOrders) (slots : List ℕ) (slot : ℕ) → AreSlots chosen tried slots
     → AreKept chosen later → HasSlot later slot (order_at tried (length slots)).before.holdings → AreSlots later tried (slots ++ slot ∷ [])
 slots_more chosen later tried slots slot are kept last i lt = elim (cases_lt i (length slots)) [

@@ -11,14 +11,14 @@ module _ {X A : Type 0} (p : X → Bool) (f : X → List A) where
   if_one true x xs = flat_map-cons f x xs
   if_one false x xs = refl
 
-  -- what is written of each element that passes
+  -- the text of the elements that pass a test
   pub flat_map-filter : (xs : List X) → flat_map f (filter p xs) ≡ flat_map (λ x. cond (p x) (f x) []) xs
   flat_map-filter [] = refl
   flat_map-filter (x ∷ xs) =
       if_one (p x) x (filter p xs) ∙ ap (λ rest. cond (p x) (f x) [] ++ rest) (flat_map-filter xs)
       ∙ sym (flat_map-cons (λ y. cond (p y) (f y) []) x xs)
 
--- numbers from a on, and those behind them
+-- a range of numbers followed by the next range is one range
 range-append : (a n j m k : ℕ) → a + n ≡ j → n + m ≡ k → range_with_len a n ++ range_with_len j m ≡ range_with_len a k
 range-append a zero j m k at count =
     let here : j ≡ a = omega (arith, at) in
@@ -29,7 +29,7 @@ range-append a (suc n) j m (suc k) at count =
     ap (λ rest. a ∷ rest) (range-append (a + 1) n j m k (omega (arith, at)) (omega (arith, count)))
 
 module _ (f : ℕ → List ℕ) (old : List ℕ) where
-  -- what is written of n numbers from a on, and then of the next m
+  -- the text for n numbers from a on, followed by the text for the next m
   pub written_more : (a n j m k : ℕ) → a + n ≡ j → n + m ≡ k
       → (old ++ flat_map f (range_with_len a n)) ++ flat_map f (range_with_len j m) ≡ old ++ flat_map f (range_with_len a k)
   written_more a n j m k at count =
@@ -37,14 +37,14 @@ module _ (f : ℕ → List ℕ) (old : List ℕ) where
       ∙ ap (λ text. old ++ text) (sym (flat_map-append f (range_with_len a n) (range_with_len j m))
       ∙ ap (flat_map f) (range-append a n j m k at count))
 
-  -- and then of the next
+  -- the text for n numbers from a on, followed by the text for the next number
   pub written_next : (a n j k : ℕ) → a + n ≡ j → n + 1 ≡ k
       → (old ++ flat_map f (range_with_len a n)) ++ f j ≡ old ++ flat_map f (range_with_len a k)
   written_next a n j k at count =
       ap (λ text. (old ++ flat_map f (range_with_len a n)) ++ text) (sym (append-nil (f j)))
       ∙ written_more a n j 1 k at count
 
--- what is written of each element of a list is what is written of it by its number
+-- the text of the elements of a list is the text of the elements by index
 module _ {X : Type 0} (f : X → List ℕ) (d : X) where
   pub by_number : (all xs : List X) (n : ℕ) → drop n all ≡ xs
       → flat_map (λ i. f (get_or all i d)) (range_with_len n (length xs)) ≡ flat_map f xs
@@ -63,7 +63,7 @@ module _ {X : Type 0} (f : X → List ℕ) (d : X) where
         both : (get_or all n d ≡ x) × (drop (n + 1) all ≡ xs)
         both = parts (get_or all n d) (drop (n + 1) all) (sym (drop_more all n d in_range) ∙ from)
 
--- an element with its relation more
+-- appending a related element to each list keeps all elements related
 pub AllZip-last : {A B : Type 0} (R : A → B → Type 0) (xs : List A) (ys : List B) (x : A) (y : B) → AllZip R xs ys → R x y
     → AllZip R (xs ++ x ∷ []) (ys ++ y ∷ [])
 AllZip-last R [] [] x y all last = (last, tt)

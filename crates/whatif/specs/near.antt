@@ -1,4 +1,4 @@
--- What no promise's words stand on: forms near to the code.
+-- Implementation-level forms, which no top-level guarantee uses.
 pub mod Befores
 pub mod Numbers
 pub mod OnLiterals

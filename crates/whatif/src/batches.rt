@@ -1,4 +1,4 @@
-//! Orders in batches, each on its account (docs/FORMATS.md, "Orders tried").
+//! Orders in batches, each evaluated on its account (docs/FORMATS.md, "Orders tried").
 ghost use Rattle.std.specs.Arc.{arc_value};
 ghost use Rattle.std.specs.Prelude.{◌≡◌, ◌++◌, ◌+◌, ◌-◌, ◌≤◌, IfOk, OnOk, drop, length, map, take};
 ghost use Rattle.worker_pool.specs.Batches.{AllFit};
@@ -19,7 +19,7 @@ use std::time::Clock;
 use step_scheduler::rows::Row;
 use worker_pool::gates::Gate;
 
-// Appends the lines of the orders from one number up to another, from the rows after them.
+// Appends the lines of a range of orders, from the rows after them.
 fn push_orders(
     out: &mut Vec<u8>,
     set: &Arc<CompiledSet>,
@@ -45,7 +45,7 @@ fn push_orders(
     Ok(())
 }
 
-// Appends the lines of the orders from one number up to another: their accounts are margined with them, in one batch.
+// Appends the lines of a range of orders, whose accounts are margined with them in one batch.
 fn push_batch<R: Threads + Wait + Clock + Sync, G: Gate>(
     lent: &BatchMeans<'_, R, G>,
     out: &mut Vec<u8>,
@@ -66,8 +66,8 @@ fn push_batch<R: Threads + Wait + Clock + Sync, G: Gate>(
     push_orders(out, lent.set, orders, befores, first, end, &rows)
 }
 
-/// What orders would do, in their order. Besides the text and the orders, the rows of one batch are in memory, and the numbers of
-/// each account before the orders.
+/// Returns the lines of all orders, in their order. In addition to the text and the orders, only the rows of one batch
+/// and the numbers of each account before the orders are in memory.
 pub(crate) fn text_of<R: Threads + Wait + Clock + Sync, G: Gate>(
     lent: &BatchMeans<'_, R, G>,
     orders: &Orders,

@@ -1,4 +1,4 @@
-//! What the accounts of orders are margined at before these, each account once.
+//! The margins of the accounts before their orders, with each account margined once.
 ghost use Rattle.std.specs.Arc.{arc_value};
 ghost use Rattle.std.specs.Prelude.{◌≡◌, ◌<◌, IfOk, OnOk, Some, [], length, slice_get, slice_index_or, vec_len};
 ghost use Rattle.worker_teams.specs.near.OutcomeRows.{rows_of_accounts};
@@ -19,22 +19,23 @@ use std::thread::Threads;
 use std::time::Clock;
 use worker_pool::gates::Gate;
 
-// The portfolios that are margined: behind one that holds nothing, each that some order is tried on. Each place among all portfolios
-// is marked with the slot of its portfolio among these, and with 0 where it has none.
+// The portfolios that are margined: first one that holds nothing, and then each portfolio on which an order is
+// evaluated. Each index among all portfolios is marked with the slot of its portfolio among these, or with 0 if it has
+// none.
 #[derive(Drop)]
 struct Choice {
     marks: Vec<usize>,
     portfolios: Vec<Portfolio>,
 }
 
-// The portfolios that are margined, and the slot among them of what each order has before it.
+// The portfolios that are margined, and for each order the slot among them of what its account holds before it.
 #[derive(Drop)]
 struct Chosen {
     portfolios: Vec<Portfolio>,
     slots: Vec<usize>,
 }
 
-/// The numbers of the accounts before the orders, and the slot among them of each order.
+/// The numbers of the accounts before their orders, and for each order its slot among them.
 #[derive(Drop)]
 pub(crate) struct Befores {
     pub(crate) numbers: Vec<Numbers>,
@@ -42,7 +43,7 @@ pub(crate) struct Befores {
 }
 
 impl Befores {
-    /// The numbers of the account of the order of a number before it.
+    /// Returns the numbers of an order's account before the order.
     pub(crate) fn at(&self, order: usize) -> &Numbers
         requires order { order < length self.now.slots.items }
         requires slot { slice_index_or self.now.slots.items order 0 < length self.now.numbers.items }
@@ -52,14 +53,14 @@ impl Befores {
     }
 }
 
-// A portfolio that holds nothing.
+// Returns a portfolio that holds nothing.
 fn holding_nothing(alloc: Global) -> Portfolio
     ensures { result.holdings ≡ [] }
 {
     Portfolio::new(Name::default(), Vec::new(alloc))
 }
 
-// A choice of none of these portfolios.
+// Returns a choice with none of these portfolios.
 fn none_chosen(alloc: Global, all: &[Portfolio]) -> Result<Choice, AllocError>
     ensures { IfOk result (IsChoice all.now) }
 {
@@ -69,7 +70,7 @@ fn none_chosen(alloc: Global, all: &[Portfolio]) -> Result<Choice, AllocError>
     Ok(Choice { marks, portfolios })
 }
 
-// Chooses the portfolio at a place, if it is not chosen yet.
+// Chooses the portfolio at an index, if it is not chosen yet.
 fn choose_at(
     alloc: Global,
     choice: &mut Choice,
@@ -91,7 +92,7 @@ fn choose_at(
     Ok(())
 }
 
-// The slot of what the order of a number has before it, which is chosen if it is not yet.
+// Returns the slot of what an order's account holds before the order. Chooses its portfolio if it is not chosen yet.
 fn slot_before(
     alloc: Global,
     choice: &mut Choice,
@@ -113,7 +114,7 @@ fn slot_before(
     }
 }
 
-// The portfolios that orders are tried on, each chosen once.
+// Chooses the portfolios on which orders are evaluated, each once.
 fn choose(alloc: Global, orders: &Orders) -> Result<Chosen, AllocError>
     ensures every { IfOk result (λ chosen. length chosen.slots.items ≡ length orders.now.orders) }
     ensures slots { IfOk result (λ chosen. AreSlots chosen.portfolios.items orders.now chosen.slots.items) }
@@ -131,7 +132,7 @@ fn choose(alloc: Global, orders: &Orders) -> Result<Chosen, AllocError>
     })
 }
 
-// The numbers of portfolios, whose rows are dropped.
+// Returns the numbers of portfolios, and drops their rows.
 fn margined<R: Threads + Wait + Clock + Sync, G: Gate>(
     lent: &BatchMeans<'_, R, G>,
     portfolios: Vec<Portfolio>,
@@ -143,7 +144,7 @@ fn margined<R: Threads + Wait + Clock + Sync, G: Gate>(
     all_numbers(lent.alloc, &rows)
 }
 
-// The numbers of portfolios, which are margined in batches.
+// Returns the numbers of portfolios, which are margined in batches.
 fn all_margined<R: Threads + Wait + Clock + Sync, G: Gate>(
     lent: &BatchMeans<'_, R, G>,
     portfolios: Vec<Portfolio>,
@@ -161,7 +162,8 @@ fn all_margined<R: Threads + Wait + Clock + Sync, G: Gate>(
     Ok(numbers)
 }
 
-/// What the accounts of orders are margined at before these: each portfolio that some order is tried on is margined once.
+/// Returns the margins of the accounts before their orders. Each portfolio on which an order is evaluated is margined
+/// once.
 pub(crate) fn befores_of<R: Threads + Wait + Clock + Sync, G: Gate>(
     lent: &BatchMeans<'_, R, G>,
     orders: &Orders,

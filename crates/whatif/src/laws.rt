@@ -1,4 +1,5 @@
-//! Laws: what the lines of an order say of the statements without it and with it. Each is the contract of a function that does nothing.
+//! Lemmas: how the lines of an order agree with the statements without it and with it. Each is the contract of a
+//! function that does nothing.
 ghost use Rattle.binding.specs.OrderBinding.{TriedOrder, holdings_after, holdings_before, orders_bound, tried_order};
 ghost use Rattle.binding.specs.OrderBinding.{TriedOrders};
 ghost use Rattle.binding.specs.declared.faults.OrderBindFault.{OrderBindFault};
@@ -29,7 +30,7 @@ pub fn changes_add_up()
         ≡ total_of t o.after -ℤ total_of t o.before }
 {}
 
-/// An order with which its account holds what it held without it has its last line alone, with all changes 0.
+/// An order that does not change what its account holds has only its last line, with all changes 0.
 pub fn an_order_that_changes_no_holding_has_one_line()
     ensures none { (t : AcceptedTables) (o : TriedOrder) → o.after.holdings ≡ o.before.holdings → changed_by t o ≡ [] }
     ensures alone { (t : AcceptedTables) (o : TriedOrder) → o.after.holdings ≡ o.before.holdings
@@ -48,9 +49,10 @@ pub fn an_order_that_adds_up_to_nothing_changes_no_holding()
         ≡ holdings_before (portfolios_of contracts positions) records order }
 {}
 
-/// Before an order its account has the portfolio that it has among those that the order is tried on, or holds nothing, where it has
-/// none. After it the account has the portfolio that it has under the records of the positions with the order's behind them. So what the
-/// lines of the order say of before and after is what the lines of the account say in the statements of these portfolios.
+/// The portfolio before an order is the portfolio of its account among the given portfolios, or holds nothing if there
+/// is none. The portfolio after the order is the account's portfolio from the position records with the order's records
+/// appended. So the amounts before and after in the order's lines are the amounts in the account's lines in the
+/// statements of these portfolios.
 pub fn before_and_after_are_those_of_statements()
     ensures before { (contracts : List Contract) (portfolios : List AccountHoldings) (records : List OrderRecord) (order : List ℕ)
         (p : AccountHoldings) → find (λ q. bytes_eq q.account (account_of_order records order)) portfolios ≡ Some p
@@ -66,8 +68,9 @@ pub fn before_and_after_are_those_of_statements()
         ≡ Some (tried_order t.contracts portfolios records order).after }
 {}
 
-/// Where positions are accepted, and orders on them, so are the records of the positions with those of any one of the orders behind them.
-/// So these have a statement, and the portfolio of the order's account in it is the one after the order.
+/// If positions are accepted, and orders on them, the position records are also accepted with the records of any one
+/// order appended. So these have a statement, in which the portfolio of the order's account is the portfolio after the
+/// order.
 pub fn an_orders_records_are_accepted_behind_the_positions()
     ensures { (params orders : List ℕ) (t : AcceptedTables) (positions : List PositionRecord) (portfolios : List AccountHoldings)
         (records : List OrderRecord) (tried : TriedOrders) (order : List ℕ) → accepted_of params ≡ Ok t
@@ -77,7 +80,8 @@ pub fn an_orders_records_are_accepted_behind_the_positions()
         ≡ Ok (portfolios_of t.contracts (positions ++ positions_of_order records order)) }
 {}
 
-/// Nothing is required in a commodity of which nothing is held, and an account that holds nothing has total 0 and owes nothing.
+/// The requirement in a commodity without held contracts is 0. An account that holds nothing has total 0 and amount due
+/// 0.
 pub fn what_holds_nothing_requires_nothing()
     ensures commodity { (t : AcceptedTables) (p : AccountHoldings) (c : ℕ) → c < length t.commodities
         → is_commodity_held t p.holdings c ≡ false → requirement_at t p c ≡ pos 0 }
@@ -87,8 +91,8 @@ pub fn what_holds_nothing_requires_nothing()
     ensures due { (t : AcceptedTables) (p : AccountHoldings) → p.holdings ≡ [] → due_at t p ≡ pos 0 }
 {}
 
-/// The lines of an order are the same beside whatever other orders. No orders give no bytes, and the lines of some orders stand before
-/// those of the orders behind them.
+/// The lines of an order do not depend on the other orders. Without orders the text is empty. The text of two lists of
+/// orders, joined, is the text of the first followed by the text of the second.
 pub fn orders_stand_by_themselves()
     ensures same { (t : AcceptedTables) (portfolios : List AccountHoldings) (these those : List OrderRecord) (order : List ℕ)
         → filter (λ r. bytes_eq r.order order) these ≡ filter (λ r. bytes_eq r.order order) those
@@ -98,8 +102,8 @@ pub fn orders_stand_by_themselves()
         → whatif_text t (some ++ others) ≡ whatif_text t some ++ whatif_text t others }
 {}
 
-/// What refuses a statement refuses what is tried on it; then come the faults of reading the orders, and those of binding them. Where there
-/// is none, the answer is the text of the orders.
+/// A fault of the statement comes first, then a fault in reading the orders, and then a fault in binding them. If there
+/// is none, the result is the text of the orders.
 pub fn faults_come_in_order()
     ensures statement { (params positions orders : List ℕ) (e : SpanFault) → statement_of params positions ≡ Err e
         → tried_of params positions orders ≡ Err e }

@@ -1,5 +1,5 @@
-//! Orders tried: from the bytes of a parameter file, a position file and an order file to what each order would do to the margin of
-//! its account.
+//! What-if orders: from the bytes of a parameter file, a position file and an order file to the change that each order
+//! would make to the margin of its account.
 #![tactic(auto)]
 
 mod batches;

@@ -17,8 +17,8 @@ use std::alloc::AllocError;
 use std::marker::Model;
 use step_scheduler::rows::Row;
 
-/// An order that is tried: its number among the orders, the numbers of its account before it, and the row after it. Contracts see the
-/// tables and the order.
+/// An order that is evaluated: its number among the orders, the numbers of its account before it, and the row after it.
+/// Its value in contracts is the tables and the order.
 #[derive(Drop)]
 pub struct Trial<'a> {
     tables: &'a Tables,
@@ -39,7 +39,7 @@ impl<'a> Model for Trial<'a> {
     ghost invariant = { λ t. IsTrial t.tables.now t.orders.now t.number t.before.now t.row.now };
 }
 
-// What a line says of an amount: what it is before and after, and what the second is over the first.
+// Returns the fields of a line for an amount: before, after, and after minus before.
 fn change_of(before: Money, after: Money) -> [i128; 3]
     ensures { result ≡ change_of before after }
 {
@@ -48,7 +48,7 @@ fn change_of(before: Money, after: Money) -> [i128; 3]
     [before, after, after - before]
 }
 
-// Appends the line of a change under these ids, where there is one.
+// Appends the line of a change with these ids, if there is a change.
 fn push_changed(
     out: &mut Vec<u8>,
     ids: &[Field<'_>],
@@ -64,7 +64,7 @@ fn push_changed(
 }
 
 impl<'a> Trial<'a> {
-    /// The order of a number, with the numbers of its account before it and the row after it.
+    /// Creates the evaluation of the order at an index, from the numbers of its account before it and the row after it.
     pub fn new(
         tables: &'a Tables,
         orders: &'a Orders,
@@ -86,21 +86,21 @@ impl<'a> Trial<'a> {
         }
     }
 
-    // The name of the order.
+    // Returns the name of the order.
     fn order(&self) -> &Name
         ensures { result.now ≡ self.now.order.order }
     {
         self.orders.name(self.number)
     }
 
-    // The account of the order.
+    // Returns the account of the order.
     fn account(&self) -> &Name
         ensures { result.now ≡ self.now.order.after.account }
     {
         self.row.account()
     }
 
-    // Appends the line of the commodity of a number, where the order changes its requirement.
+    // Appends the line of the commodity of a number, if the order changes its requirement.
     #[tactic(auto, unfolding(crate::specs::Whatif::change_line))]
     fn push_change(&self, out: &mut Vec<u8>, commodity: usize) -> Result<(), AllocError>
         requires { commodity < length self.now.tables.commodities }
@@ -127,7 +127,8 @@ impl<'a> Trial<'a> {
         Ok(())
     }
 
-    // What the account has to bring after its option value, before the order and after it, and the difference.
+    // Returns the amount due from the account after its option value, before the order and after it, and the
+    // difference.
     fn change_of_due(&self) -> [i128; 3]
         ensures { result ≡ change_of (due_at self.now.tables self.now.order.before) (due_at self.now.tables self.now.order.after) }
     {
@@ -136,8 +137,8 @@ impl<'a> Trial<'a> {
         [before, after, after - before]
     }
 
-    // Appends the last line of the order: how it changes the total of its account, and, where options have a value, what that has to
-    // bring after it.
+    // Appends the last line of the order: the change of the account's total and, if options have a value, the change of
+    // the amount due.
     #[tactic(auto, unfolding(crate::specs::Whatif::order_line))]
     fn push_totals(&self, out: &mut Vec<u8>) -> Result<(), AllocError>
         ensures { OnOk result (out.new.items ≡ out.old.items ++ line (order_line self.now.tables self.now.order)) }

@@ -14,10 +14,10 @@ use step_scheduler::rows::Row;
 use worker_pool::gates::Gate;
 use worker_teams::rows::rows_together;
 
-/// How many portfolios a batch has, at most.
+/// The maximum number of portfolios of a batch.
 pub(crate) const MOST_AT_ONCE: usize = 512;
 
-/// What batches are lent: a runtime, an allocator, the set, so many workers and the gate that they pass.
+/// What batches borrow: a runtime, an allocator, the parameter set, the number of workers, and the gate that they pass.
 #[derive(Drop)]
 pub(crate) struct BatchMeans<'a, R, G: Gate> {
     pub(crate) rt: &'a R,
@@ -27,7 +27,7 @@ pub(crate) struct BatchMeans<'a, R, G: Gate> {
     pub(crate) gate: &'a G,
 }
 
-/// The rows of portfolios, in their order.
+/// Returns the rows of portfolios, in their order.
 pub(crate) fn rows_of<R: Threads + Wait + Clock + Sync, G: Gate>(
     lent: &BatchMeans<'_, R, G>,
     portfolios: Vec<Portfolio>,

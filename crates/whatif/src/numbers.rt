@@ -1,4 +1,4 @@
-//! What portfolios are margined at, kept as numbers.
+//! The margins of portfolios, stored as numbers.
 ghost use Rattle.std.specs.Arc.{arc_value};
 ghost use Rattle.std.specs.List.{AllZip};
 ghost use Rattle.std.specs.Prelude.{◌≡◌, ◌<◌, IfOk, length, map};
@@ -9,7 +9,7 @@ use std::alloc::{AllocError, Global};
 use std::sync::Arc;
 use step_scheduler::rows::Row;
 
-/// What a portfolio is margined at: the requirement of each commodity, the total and the option value.
+/// The margin of a portfolio: the requirement of each commodity, the total and the option value.
 #[derive(Drop)]
 pub struct Numbers {
     pub requirements: Vec<Money>,
@@ -17,7 +17,7 @@ pub struct Numbers {
     pub value: Money,
 }
 
-// The requirement of each commodity of a row.
+// Returns the requirement of each commodity of a row.
 fn requirements_of(alloc: Global, row: &Row) -> Result<Vec<Money>, AllocError>
     ensures every { IfOk result (λ all. length all.items ≡ length row.now.set.tables.commodities) }
     ensures each { IfOk result (λ all. AreFirstRequirements row.now.set.tables row.now.portfolio.holdings all.items) }
@@ -30,7 +30,7 @@ fn requirements_of(alloc: Global, row: &Row) -> Result<Vec<Money>, AllocError>
     Ok(all)
 }
 
-/// The numbers of a row. It fails only if it runs out of memory.
+/// Returns the numbers of a row. Fails only if memory runs out.
 pub fn numbers_of(alloc: Global, row: &Row) -> Result<Numbers, AllocError>
     ensures { IfOk result (AreNumbers row.now.set.tables row.now.portfolio.holdings) }
 {
@@ -42,7 +42,7 @@ pub fn numbers_of(alloc: Global, row: &Row) -> Result<Numbers, AllocError>
     })
 }
 
-/// The numbers of each of some rows.
+/// Returns the numbers of each row.
 pub(crate) fn all_numbers(alloc: Global, rows: &[Arc<Row>]) -> Result<Vec<Numbers>, AllocError>
     ensures { IfOk result (λ all.
         AllZip (λ r numbers. AreNumbers r.set.tables r.portfolio.holdings numbers) (map arc_value rows.now) all.items) }

@@ -1,10 +1,10 @@
-//! Portfolios that are copied.
+//! Copies of portfolios.
 ghost use Rattle.std.specs.Prelude.{◌≡◌, IfOk};
 
 use span_tables::portfolios::Portfolio;
 use std::alloc::{AllocError, Global};
 
-/// A copy of a portfolio. It fails only if it runs out of memory.
+/// Returns a copy of a portfolio. Fails only if memory runs out.
 pub fn copied(alloc: Global, portfolio: &Portfolio) -> Result<Portfolio, AllocError>
     ensures { IfOk result (λ copy. copy ≡ portfolio.now) }
 {

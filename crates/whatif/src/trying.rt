@@ -1,4 +1,4 @@
-//! From the bytes of three files to what the orders of the last would do (docs/FORMATS.md, "Orders tried").
+//! From the bytes of three files to the changes that the orders would make (docs/FORMATS.md, "Orders tried").
 ghost use Rattle.binding.specs.OrderBinding.{TriedOrders};
 ghost use Rattle.statement_text.specs.Gives.{Gives};
 ghost use Rattle.statement_text.specs.declared.faults.SpanFault.TheVariants as fault;
@@ -22,7 +22,8 @@ use std::time::Clock;
 use worker_pool::batch::MAX_WORKERS;
 use worker_pool::gates::Gate;
 
-// The orders of a file, tried on portfolios under a compiled set, or the first fault: in reading them, in binding them.
+// Reads the orders of a file and binds them to portfolios under a compiled parameter set. Fails with the first fault in
+// reading and then in binding them.
 #[tactic(auto, unfolding(crate::specs::Whatif::tried_on))]
 fn orders_on(
     alloc: Global,
@@ -40,10 +41,12 @@ fn orders_on(
     Ok(orders)
 }
 
-/// What each order of a file would do to the margin of its account, on so many workers; or the first fault in reading the parameters,
-/// checking them, reading the positions, binding them, reading the orders and binding them; or out of memory.
+/// Returns how each order of a file would change the margin of its account, computed on 1 to 16 workers. The workers
+/// pass the gate before each step.
 ///
-/// A number of workers that is 0 or over 16 is refused before anything else. The workers pass the gate before each step.
+/// A number of workers that is 0 or over 16 is rejected before anything else. Otherwise fails with the first fault in
+/// reading the parameters, checking them, reading the positions, binding them, reading the orders and binding them, or
+/// if memory runs out.
 #[tactic(auto, unfolding(crate::specs::Whatif::whatif_of))]
 pub fn whatif<R: Threads + Wait + Clock + Sync, G: Gate>(
     rt: &R,

@@ -1,4 +1,5 @@
-//! Whole files with what the orders of the last would do, each computed from the bytes of the three by the definitions alone.
+//! Whole files and the changes that the orders in the last one would make, each computed from the bytes of the three
+//! files by the definitions alone.
 #![tactic(auto, unfolding(crate::specs::near::OnLiterals::on_literals))]
 
 ghost use Rattle.binding.specs.declared.faults.OrderBindFault.TheVariants as bind;
@@ -8,7 +9,8 @@ ghost use Rattle.statement_text.specs.near.Samples.{ca, fa, one_future, two_comm
 ghost use Rattle.std.specs.Prelude.{◌++◌, ◌≡◌, Err, Ok, [], codes};
 ghost use Rattle.whatif.specs.Whatif.{tried_of, whatif_of};
 
-// One more contract, the one that is held given back, and an account that holds nothing before: each by itself.
+// Three orders, each evaluated by itself: one more contract, the held contract sold, and a contract for an account that
+// held nothing.
 fn three_orders()
     ensures { tried_of one_future (codes "X,FA,1\n") (codes "MORE,X,FA,1\n" ++ codes "BACK,X,FA,-1\n" ++ codes "NEW,Y,FA,-1\n")
         ≡ Ok (codes "CHANGE,MORE,X,D1,AA,1200,2400,1200\nORDER,MORE,X,D1,1200,2400,1200\n"
@@ -16,33 +18,34 @@ fn three_orders()
         ++ codes "CHANGE,NEW,Y,D1,AA,0,1200,1200\nORDER,NEW,Y,D1,0,1200,1200\n") }
 {}
 
-// An order whose quantities add up to 0 has its last line alone.
+// An order whose quantities add up to 0 has only its last line.
 fn order_of_nothing()
     ensures { tried_of one_future (codes "X,FA,1\n") (codes "O,X,FA,2\n" ++ codes "O,X,FA,-2\n")
         ≡ Ok (codes "ORDER,O,X,D1,1200,1200,0\n") }
 {}
 
-// No orders give no bytes, on two workers as on one.
+// Without orders the text is empty, on one worker and on two.
 fn no_orders()
     ensures one { whatif_of 1 one_future (codes "X,FA,1\n") [] ≡ Ok [] }
     ensures two { whatif_of 2 one_future (codes "X,FA,1\n") [] ≡ Ok [] }
     ensures none { whatif_of 0 one_future (codes "X,FA,1\n") [] ≡ Err fault.Workers }
 {}
 
-// A record of three fields, and one of a contract that the set does not have.
+// A record with three fields, and a record in a contract that the parameter set does not have.
 fn refused_orders()
     ensures reading { tried_of one_future (codes "X,FA,1\n") (codes "O,X,FA\n") ≡ Err (fault.Orders (reading.FieldCount 1)) }
     ensures binding { tried_of one_future (codes "X,FA,1\n") (codes "O,X,FB,1\n")
         ≡ Err (fault.BindOrders (bind.UnknownContract 1 (codes "O"))) }
 {}
 
-// An order in one commodity earns a credit in both: a CHANGE line of each.
+// An order in one commodity earns a credit in both, so each of them has a CHANGE line.
 fn credit_between_commodities()
     ensures { tried_of (two_commodities fa (codes "5000,AA,A,1,BB,B,1")) (codes "X,FA,1\n") (codes "HEDGE,X,FB,-1\n")
         ≡ Ok (codes "CHANGE,HEDGE,X,D1,AA,1200,600,-600\nCHANGE,HEDGE,X,D1,BB,0,450,450\nORDER,HEDGE,X,D1,1200,1050,-150\n") }
 {}
 
-// Two short calls worth 120 each, of which one is bought back: what is owed for them comes to the requirement, before and after.
+// One of two short calls worth 120 each is bought back. The amount owed for them is added to the requirement, before and
+// after.
 fn option_values()
     ensures { tried_of (codes "SET,D2,2,USD\n" ++ codes "COMMODITY,AA,500,SUM\n" ++ ca (codes ",120"))
         (codes "X,CA,-2\n") (codes "CLOSE,X,CA,1\n")

@@ -1,4 +1,4 @@
--- What each order has before it, among portfolios that are margined once.
+-- What each account holds before its order, among portfolios that are margined once each.
 use Rattle.std.specs.Prelude.{◌≡◌, ◌≢◌, ◌<◌, ℕ, List, [], ◌++◌, All, Some, length, option_map, slice_get, slice_index_or, true}
 use Rattle.std.specs.List.{AllZip}
 use Rattle.span_tables.specs.Holdings.{fits}
@@ -13,26 +13,26 @@ use Rattle.whatif.specs.declared.befores.Befores.{Befores}
 use Rattle.whatif.specs.declared.befores.Choice.{Choice}
 use Rattle.whatif.specs.declared.numbers.Numbers.{Numbers}
 
--- the portfolio at a slot holds this
+-- the portfolio at a slot has these holdings
 abbrev pub HasSlot : List AccountHoldings → ℕ → List Holding → Type 0
 HasSlot chosen slot holdings = option_map (λ p. p.holdings) (slice_get chosen slot) ≡ Some holdings
 
--- the orders, as many as there are slots, each have the slot of what their account holds before them
+-- each order with a slot has the slot of what its account holds before the order
 abbrev pub AreSlots : List AccountHoldings → TriedOrders → List ℕ → Type 0
 AreSlots chosen tried slots =
     (i : ℕ) → i < length slots → HasSlot chosen (slice_index_or slots i 0) (order_at tried i).before.holdings
 
--- the portfolio of a place stands among the chosen ones, at the slot that the place is marked with
+-- the portfolio at an index is among the chosen ones, at the slot with which the index is marked
 pub record IsMarked (all chosen : List AccountHoldings) (marks : List ℕ) (place : ℕ) : Type 0 where
   pub in_range : slice_index_or marks place 0 < length chosen
   pub portfolio : slice_get chosen (slice_index_or marks place 0) ≡ slice_get all place
 
--- what is chosen is of no contract that none of all is of
+-- the chosen portfolios fit whatever number of contracts all portfolios fit
 abbrev pub AllKeepFit : List AccountHoldings → List AccountHoldings → Type 0
 AllKeepFit all chosen =
     (n : ℕ) → All (λ p. fits n p.holdings ≡ true) all → All (λ p. fits n p.holdings ≡ true) chosen
 
--- the first portfolio holds nothing, and each place that is marked with another has its portfolio there
+-- the first chosen portfolio holds nothing, and each index marked with another slot has its portfolio at that slot
 pub record IsChoice (all : List AccountHoldings) (choice : Choice) : Type 0 where
   pub every : length choice.marks.items ≡ length all
   pub nothing : HasSlot choice.portfolios.items 0 []
@@ -40,12 +40,12 @@ pub record IsChoice (all : List AccountHoldings) (choice : Choice) : Type 0 wher
       → IsMarked all choice.portfolios.items choice.marks.items place
   pub fit : AllKeepFit all choice.portfolios.items
 
--- portfolios are kept where others come behind them
+-- portfolios are kept, and others may be appended
 pub record AreKept (before after : List AccountHoldings) : Type 0 where
   pub more : List AccountHoldings
   pub kept : after ≡ before ++ more
 
--- each order has the numbers of what its account holds before it
+-- each order has the numbers of what its account holds before the order
 pub record AreBefores (t : AcceptedTables) (tried : TriedOrders) (befores : Befores) : Type 0 where
   pub every : length befores.slots.items ≡ length tried.orders
   pub in_range : (i : ℕ) → i < length tried.orders
@@ -54,7 +54,7 @@ pub record AreBefores (t : AcceptedTables) (tried : TriedOrders) (befores : Befo
       → slice_get befores.numbers.items (slice_index_or befores.slots.items i 0) ≡ Some numbers
       → AreNumbers t (order_at tried i).before.holdings numbers
 
--- of all portfolios some are left, and the others have their numbers
+-- some portfolios are left, and all others have their numbers
 pub record AreMargined (set : SetView) (all left : List AccountHoldings) (numbers : List Numbers) : Type 0 where
   pub done : List AccountHoldings
   pub parts : done ++ left ≡ all

@@ -1,4 +1,4 @@
--- The lines of some of the orders that are tried, and that their portfolios fit a set.
+-- The lines of a range of orders, and whether the portfolios after the orders fit a parameter set.
 use Rattle.std.specs.Prelude.{ℕ, List, All, flat_map}
 use Rattle.std.specs.List.{range_with_len}
 use Rattle.span_tables.specs.Tables.{AcceptedTables}
@@ -8,10 +8,10 @@ use Rattle.worker_pool.specs.Batches.{FitsSet}
 use Rattle.whatif.specs.Whatif.{order_text}
 use Rattle.whatif.specs.near.Numbers.{order_at}
 
--- what each account holds with its order fits the tables of the set
+-- the portfolio of each account after its order fits the tables of the parameter set
 abbrev pub OrdersFit : SetView → TriedOrders → Type 0
 OrdersFit set tried = All (λ o. FitsSet set o.after) tried.orders
 
--- the lines of so many orders from a number on
+-- the lines of `count` orders from an index on
 abbrev pub orders_text : AcceptedTables → TriedOrders → ℕ → ℕ → List ℕ
 orders_text t tried first count = flat_map (λ i. order_text t (order_at tried i)) (range_with_len first count)
