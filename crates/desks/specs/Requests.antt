@@ -17,7 +17,7 @@ abbrev pub request_of_line : List ℕ → List (Option (List ℕ))
 request_of_line line = request_of_text (strip_last 13 line)
 
 -- The requests in the bytes of an input: the requests of its lines, in order. A line is the bytes up to a line feed or
--- to the end of the input, since the last line may lack the line feed.
+-- to the end of the input. The last line may lack the line feed.
 abbrev pub requests_in : List ℕ → List (Option (List ℕ))
 requests_in input = flat_map request_of_line (slice_split is_feed input)
 

@@ -17,8 +17,8 @@ use writers::marked_writer::MarkedWriter;
 
 /// A desk over two streams: it reads requests in blocks, and it writes and flushes each answer.
 ///
-/// After any calls, the output has grown by exactly the answers, unless a write failed, and the requests in the log are
-/// the requests taken from the bytes that were read.
+/// After any calls, the output has grown by exactly the answers, unless a write failed. The requests in the log are the
+/// requests taken from the bytes that were read.
 #[derive(Drop)]
 pub struct StreamDesk<'a, R: Read, W: Write> {
     requests: Requests<R>,

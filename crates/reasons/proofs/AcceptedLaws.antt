@@ -55,7 +55,8 @@ active_if : (b : Bool) (a n : ℕ) → nat_lt a n ≡ b → unwrap_or (cond b (S
 active_if true a n e = let lt : a < n = grind (arith, nat_tests, e) in omega (arith, lt)
 active_if false a n e = omega arith
 
--- the active scenario is the number of a scenario sum, and the paired scenario is next to it
+-- the active scenario is at most one more than the number of sums, and the paired scenario at most one more than its
+-- scenario
 pub active_few : (sums : List ℤ) → active_scenario sums ≤ length sums + 1
 active_few sums =
     let at = active_if (nat_lt (position_or_len (is_largest sums) sums) (length sums)) (position_or_len (is_largest sums) sums)

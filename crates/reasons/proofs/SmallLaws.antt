@@ -1,4 +1,4 @@
--- The numbers of lines have at most 64 digits.
+-- The numbers in lines have at most 64 digits.
 use Rattle.std.proofs.Common.{◌≡◌, ℕ, zero, suc, ◌+◌, ◌*◌, ◌<◌, ◌≤◌, Bool, true, false, cond, List, [], ◌∷◌, length, get_or, refl}
 use Rattle.std.proofs.Common.{sym, ap, ◌∙◌, arith, filter, nat_abs, subst}
 use Rattle.std.specs.Prelude.{All, None, Option, Some, ℤ, pos, negsuc, ◌==◌, find, not, option_map}

@@ -68,7 +68,7 @@ pub record IsOfRecord (t : AcceptedTables) (c : ℕ) (l : Line) : Type 0 where
   pub used : number_at 8 l 3 ≡ number_at 4 l 2 *ℤ pos leg.ratio
   pub basis_points : number_at 0 l 4 ≡ pos spread.basis_points
 
--- A SPOT line agrees with the MONTH line of its month: its delta left is the size of the month's delta left, and used
+-- A SPOT line agrees with the MONTH line of its month. Its delta left is the size of the month's delta left, and used
 -- plus left is the size of the month's delta.
 pub record AgreesWithItsMonth (lines : List Line) (l : Line) : Type 0 where
   pub month_line : Line

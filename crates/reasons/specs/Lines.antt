@@ -43,7 +43,7 @@ number_at places l k = exact_value places (text_at l k)
 abbrev pub sums_by_lines : List Line → List ℤ
 sums_by_lines lines = map (exact_value 0) (line_of (codes "SUMS") lines).fields
 
--- the charge of an INTRA line, in 10^-4
+-- the charge of an INTRA line, in 10^-4 minor units
 abbrev pub intra_charge_told : Line → ℤ
 intra_charge_told l = number_at 4 l 4
 
@@ -52,7 +52,7 @@ abbrev pub intra_by_lines : List Line → ℤ
 intra_by_lines lines =
     pos (div_ceil (positive_part (int_sum_by intra_charge_told (lines_of (codes "INTRA") lines))) (10 ^ 4))
 
--- the charge of a SPOT line, in 10^-8
+-- the charge of a SPOT line, in 10^-8 minor units
 abbrev pub spot_charge_told : Line → ℤ
 spot_charge_told l = number_at 8 l 5
 

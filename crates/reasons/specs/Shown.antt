@@ -1,4 +1,4 @@
--- What an explanation shows of a commodity in addition to the results of its stages: months with what is left of them,
+-- What an explanation shows of a commodity in addition to the results of its stages. It shows what is left of months,
 -- spreads in the directions in which they form, and what spreads used of spot months.
 use Rattle.std.specs.Prelude.{ℕ, ◌*◌, ◌==◌, if◌then◌else◌, List, [], ◌∷◌, ◌++◌, map, filter, find, not}
 use Rattle.std.specs.Prelude.{Option, Some, None, option_map, nat_abs, ◌+◌}
@@ -90,8 +90,8 @@ abbrev pub inter_ways : Inter → SpreadsFormed → Option ℕ → List ShownInt
 inter_ways s f None = []
 inter_ways s f (Some ratio) = inter_in s ratio ALong f.a_long ++ inter_in s ratio AShort f.a_short
 
--- the spreads of the parameter set that have a leg in the commodity of number c, each as it forms from the residual
--- deltas that all spreads before it left
+-- the spreads of the parameter set with a leg in the commodity of number c, each as it forms from what all spreads
+-- before it left
 abbrev pub inters_shown : ℕ → List Inter → List CommodityState → List ShownInter
 inters_shown c [] states = []
 inters_shown c (s ∷ spreads) states =

@@ -40,7 +40,7 @@ pub fn intracommodity_charge_is_that_of_the_spreads_shown()
 {}
 
 /// The spreads shown between months are exactly the spreads that each record forms in turn. There is one for each
-/// direction in which more than 0 form, with the number that forms from the residual deltas left by the spreads before
+/// direction in which more than 0 form. Its number is what forms from the residual deltas left by the spreads before
 /// it. For the tables of any records, the priorities rise.
 pub fn each_spread_between_months_has_its_lines()
     ensures stands { (t : AcceptedTables) (holdings : List Holding) (c k : ℕ) (spread : Intra)
@@ -64,8 +64,8 @@ pub fn delivery_charge_is_that_of_the_months_shown()
         ≡ pos (div_ceil (sum_by shown_spot_charge (spots_shown_at t holdings c)) (10 ^ 8)) }
 {}
 
-/// The net delta of the credit is the sum of the deltas of the months shown, and its price risk is the price risk of
-/// the scan. Spreads between commodities change neither.
+/// The net delta of the credit is the sum of the deltas of the months shown. Its price risk is the price risk of the
+/// scan. Spreads between commodities change neither.
 #[tactic(auto, using(crate::proofs::CreditLaws::net_shown, crate::proofs::CreditLaws::price2_shown))]
 pub fn net_delta_is_the_sum_of_the_months_shown()
     ensures net { (t : AcceptedTables) (holdings : List Holding) (c : ℕ) → c < length t.commodities
@@ -83,7 +83,7 @@ pub fn weight_is_the_sum_of_the_spreads_shown()
 {}
 
 /// The spreads shown between commodities are exactly the spreads that each record with a leg in the commodity forms in
-/// turn. There is one for each direction in which more than 0 form, with the number that forms from the residual deltas
+/// turn. There is one for each direction in which more than 0 form. Its number is what forms from the residual deltas
 /// left by the spreads before it. For the tables of any records, the priorities rise.
 pub fn each_spread_between_commodities_has_its_lines()
     ensures stands { (t : AcceptedTables) (holdings : List Holding) (c k : ℕ) (spread : Inter)

@@ -71,9 +71,9 @@ pub fn intracommodity_charge_follows_from_the_intra_lines()
 {}
 
 /// The INTRA lines and the INTER lines are the spreads shown, each with its priority and the number of spreads that
-/// form. The long side of a line is `A` exactly if the legs of side A are long in the direction of its spread, and `B`
-/// exactly if the legs of side B are. An INTRA line has the rate of its spread. The delta used of an INTER line is its
-/// number of spreads times the ratio of a leg that its record has in the commodity.
+/// form. The long side of a line is `A` exactly if the legs of side A are long in the direction of its spread, and
+/// likewise for `B`. An INTRA line has the rate of its spread. The delta used of an INTER line is its number of spreads
+/// times the ratio of a leg that its record has in the commodity.
 pub fn spread_lines_have_each_spread()
     ensures intra_priorities { (t : AcceptedTables) (holdings : List Holding) (c : ℕ)
         → map (λ l. text_at l 0) (lines_of (codes "INTRA") (reasons_of t holdings c))
@@ -126,9 +126,9 @@ pub fn delivery_charge_follows_from_the_spot_lines()
         (lines_of (codes "SPOT") (reasons_of t holdings c)) }
 {}
 
-/// The CREDIT line has the price risk of the SCAN line, the sum of the deltas of the MONTH lines, and the sum over the
-/// INTER lines of the delta used times the basis points. The credit follows from these three. Each INTER line has more
-/// than 0 spreads.
+/// The CREDIT line has the price risk of the SCAN line, the sum of the deltas of the MONTH lines, and the weight. The
+/// weight is the sum over the INTER lines of the delta used times the basis points. The credit follows from these
+/// three. Each INTER line has more than 0 spreads.
 pub fn credit_follows_from_the_lines()
     ensures price_risk { (t : AcceptedTables) (holdings : List Holding) (c : ℕ) → AreAccepted t holdings → c < length t.commodities
         → number_at 1 (line_of (codes "CREDIT") (reasons_of t holdings c)) 0

@@ -21,8 +21,8 @@ pub struct ShownIntra {
     pub rate: u32,
 }
 
-/// A spot month: the sizes of the delta that spreads used and of the delta that they left, in 10^-8 deltas, and its
-/// rates in minor units a delta.
+/// A spot month: the sizes of the deltas that spreads used and left, in 10^-8 deltas, and its rates in minor units a
+/// delta.
 #[derive(Clone, Copy, Debug, PartialEq, Eq)]
 pub struct ShownSpot {
     pub month: u32,
@@ -32,8 +32,8 @@ pub struct ShownSpot {
     pub outright_rate: u32,
 }
 
-/// An intercommodity spread in a direction in which it forms: the number of spreads, in 10^-4 spreads, the delta that
-/// they use of a commodity, in 10^-8 deltas, and the credit rate in basis points.
+/// An intercommodity spread in a direction in which it forms. It has the number of spreads in 10^-4 spreads, the delta
+/// that they use of a commodity in 10^-8 deltas, and the credit rate in basis points.
 #[derive(Clone, Copy, Debug, PartialEq, Eq)]
 pub struct ShownInter {
     pub priority: u32,

@@ -24,8 +24,8 @@ use spread_stage::tiers::start;
 use std::alloc::{AllocError, Global};
 use std::marker::Model;
 
-/// What an account holds of each commodity, by commodity number, and the state that its commodities share: their net
-/// deltas, residual deltas and weights after all intercommodity spreads, and how many of each spread formed.
+/// What an account holds of each commodity, by commodity number, and the state that its commodities share. The state is
+/// their net deltas, residual deltas and weights after all intercommodity spreads, and how many of each spread formed.
 #[derive(Drop)]
 pub struct Stages {
     held: Vec<Held>,
@@ -106,8 +106,8 @@ fn push_month_reasons(
     Ok(())
 }
 
-/// Appends the lines that explain the figures of the commodity of a number, with these ids after each word: the lines
-/// of its held contracts, scan, months, spreads and spot months, credit and short options.
+/// Appends the lines that explain the figures of the commodity of a number, with these ids after each word. They are
+/// the lines of its held contracts, scan, months, spreads and spot months, credit and short options.
 pub fn push_reasons(
     alloc: Global,
     out: &mut Vec<u8>,

@@ -198,7 +198,7 @@ module _ (contracts : List Contract) (positions more : List PositionRecord) (acc
         ap (λ name. nat_lt MAX_HELD (length (holdings_of contracts (positions ++ more) name))) is
         ∙ le-ltb MAX_HELD (length (holdings_of contracts (positions ++ more) account)) holds.few
 
-    -- no record's account holds more contracts than allowed, if none did before
+    -- an account within the limit of held contracts stays within it
     few_at : (p : PositionRecord) → exceeds_held contracts positions p ≡ false
         → exceeds_held contracts (positions ++ more) p ≡ false
     few_at p few = by (bytes_eq p.account account) refl where

@@ -66,8 +66,8 @@ fn push_batch<R: Threads + Wait + Clock + Sync, G: Gate>(
     push_orders(out, lent.set, orders, befores, first, end, &rows)
 }
 
-/// Returns the lines of all orders, in their order. In addition to the text and the orders, only the rows of one batch
-/// and the numbers of each account before the orders are in memory.
+/// Returns the lines of all orders, in their order. In addition to the text and the orders, memory is needed only for
+/// the rows of one batch and for the accounts' numbers before the orders.
 pub(crate) fn text_of<R: Threads + Wait + Clock + Sync, G: Gate>(
     lent: &BatchMeans<'_, R, G>,
     orders: &Orders,

@@ -23,7 +23,7 @@ ghost use Rattle.std.specs.Prelude.{◌≡◌, ◌-ℤ◌, ◌++◌, ◌<◌, Er
 ghost use Rattle.std.specs.Prelude.{pos, ℕ};
 ghost use Rattle.whatif.specs.Whatif.{changed_by, due_at, order_line, order_text, requirement_at, tried_of, whatif_text};
 
-/// The changes of the commodities that have a line add up to the change of the total of the account.
+/// The changes of the commodities that have a line add up to the change of the account's total.
 pub fn changes_add_up()
     ensures { (t : AcceptedTables) (o : TriedOrder)
         → int_sum_by (λ c. requirement_at t o.after c -ℤ requirement_at t o.before c) (changed_by t o)

@@ -1,5 +1,5 @@
-//! What-if orders: from the bytes of a parameter file, a position file and an order file to the change that each order
-//! would make to the margin of its account.
+//! What-if orders: from the bytes of a parameter file, a position file and an order file to each order's change of its
+//! account's margin.
 #![tactic(auto)]
 
 mod batches;

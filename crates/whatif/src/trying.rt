@@ -44,9 +44,9 @@ fn orders_on(
 /// Returns how each order of a file would change the margin of its account, computed on 1 to 16 workers. The workers
 /// pass the gate before each step.
 ///
-/// A number of workers that is 0 or over 16 is rejected before anything else. Otherwise fails with the first fault in
-/// reading the parameters, checking them, reading the positions, binding them, reading the orders and binding them, or
-/// if memory runs out.
+/// A number of workers that is 0 or over 16 is rejected before anything else. Otherwise fails if memory runs out, or
+/// with the first fault. Faults come in this order: reading the parameters, checking them, reading the positions,
+/// binding them, reading the orders, binding them.
 #[tactic(auto, unfolding(crate::specs::Whatif::whatif_of))]
 pub fn whatif<R: Threads + Wait + Clock + Sync, G: Gate>(
     rt: &R,

@@ -1,5 +1,5 @@
-//! Whole files and the changes that the orders in the last one would make, each computed from the bytes of the three
-//! files by the definitions alone.
+//! Whole files and the changes that the orders would make, each computed from the bytes of the three files by the
+//! definitions alone.
 #![tactic(auto, unfolding(crate::specs::near::OnLiterals::on_literals))]
 
 ghost use Rattle.binding.specs.declared.faults.OrderBindFault.TheVariants as bind;

@@ -1,5 +1,5 @@
--- The balance rule of a deque or of the result queue: every item is of the batch, and is taken as often as it was
--- pushed.
+-- The balance rule of a deque or of the result queue: every item is of the batch, and is taken or left as often as it
+-- was pushed.
 use Rattle.std.specs.Prelude.{◌≡◌, ℕ, ◌+◌, ◌-◌, ◌<◌, List, [], ◌∷◌, ◌++◌, All}
 use mathlib.Core.Option.{some}
 use lib.ListN.{get_elem?}
@@ -67,7 +67,8 @@ module _ {T : Type 0} (IsOf : List JobView → T → Type 0) where
   abbrev pub KnowsAll : PassView T → List T → Type 0
   KnowsAll v left = AsOften v.pushed v.taken left × All (IsOf v.batch) left × All (IsOf v.batch) v.pushed × All (IsOf v.batch) v.taken
 
-  -- a pass without parts has empty lists; one with parts names the batch; all items of its lists are of the batch
+  -- a pass without parts has empty lists, a pass with parts names the batch, and all items of its lists are of the
+  -- batch
   pub record IsPassIn (batch : List JobView) (v : PassView T) : Type 0 where
     pub idle : v.parts ≡ 0 → (v.pushed ≡ []) × (v.taken ≡ [])
     pub named : 0 < v.parts → v.batch ≡ batch

@@ -26,12 +26,12 @@ jobs_from set place (portfolio ∷ portfolios) = job_at set portfolio place ∷ 
 abbrev pub jobs_of : SetView → List AccountHoldings → List JobView
 jobs_of set portfolios = jobs_from set 0 portfolios
 
--- a task is of a batch if its step is in its job's plan, and its job is the batch's job at the index that it names
+-- a task is of a batch: its step is in its job's plan, and its job is the batch's job at the index that it names
 pub record IsTaskOf (batch : List JobView) (task : TaskView) : Type 0 where
   pub in_range : task.step < length task.job.set.plan
   pub job : slice_get batch task.job.place ≡ Some task.job
 
--- a result is of a batch if its step is in its job's plan, and its job is the batch's job at the index that it names
+-- a result is of a batch: its step is in its job's plan, and its job is the batch's job at the index that it names
 pub record IsResultOf (batch : List JobView) (finished : FinishedView) : Type 0 where
   pub in_range : finished.step < length finished.job.set.plan
   pub job : slice_get batch finished.job.place ≡ Some finished.job

@@ -29,7 +29,7 @@ use std::thread::Threads;
 use std::time::Clock;
 use thiserror::Error;
 
-/// The most workers that a batch can have.
+/// The maximum number of workers of a batch.
 pub const MAX_WORKERS: usize = 16;
 
 /// The reasons why a batch is not run.

@@ -17,7 +17,7 @@ const SLEEP_OF_HELPER: u64 = 500;
 /// The longest time for which a worker sleeps, in microseconds.
 const LONGEST: u64 = 1_000;
 
-/// A worker's patience: it yields at first, and then sleeps. Each sleep in a row is longer than the one before.
+/// A worker's patience: it yields at first, and then sleeps, each time for longer, up to a maximum.
 #[derive(Drop)]
 pub(crate) struct Patience {
     yields: u32,

@@ -28,7 +28,7 @@ use step_scheduler::tasks::Task;
 /// The number of slots of the result queue.
 pub const RESULT_PLACES: usize = 256;
 
-/// Names a batch by its jobs.
+/// A type that names a batch by its jobs.
 pub trait Batch {
     ghost use Rattle.std.specs.Prelude.{List};
     ghost use Rattle.step_scheduler.specs.Jobs.{JobView};

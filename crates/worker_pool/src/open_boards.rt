@@ -90,8 +90,8 @@ impl<B: Batch> OpenBoard<B> {
     /// Stores the result of a step that is under way. The result is of this board's job, since both are of the batch
     /// and have the same index.
     ///
-    /// A board rejects only results that it has no use for. Fails only if the result says that there was no memory for
-    /// its value.
+    /// A board rejects only results that it has no use for. Fails exactly if the result has no value, because there was
+    /// no memory for it.
     pub(crate) fn finish(&mut self, done: FinishedOf<B>) -> Result<(), AllocError>
         requires { done.finished.job.place ≡ self.old.board.job.place }
         ensures same_job { self.new.board.job ≡ self.old.board.job }

@@ -2,8 +2,8 @@
 use std::collections::LinkedList;
 use step_scheduler::jobs::Job;
 
-/// What a pass knows: its batch, its parts of the right to account for every item, and the items pushed and taken with
-/// it, in order. The type exists only in proofs, and no value of it is made.
+/// What a pass knows: its batch, its parts, and the items pushed and taken with it, in order. The parts are shares of
+/// the right to account for every item. The type exists only in proofs, and no value of it is made.
 pub struct PassView<T> {
     pub batch: LinkedList<Job>,
     pub parts: u64,

@@ -19,8 +19,8 @@ const DEQUE_PLACES: usize = 256;
 /// The maximum number of tasks that a helper steals at once.
 const MOST_STOLEN: usize = 4;
 
-/// A worker: the number under which it passes the gate, its end of the result queue, its own deque, and a thief's end
-/// of each other worker's deque.
+/// A worker: its number at the gate, its end of the result queue, its own deque, and a thief's end of each other
+/// worker's deque.
 #[derive(Drop)]
 pub(crate) struct Worker<'a, B: Batch, G: Gate> {
     pub(crate) alloc: Global,
@@ -121,7 +121,7 @@ impl<'a, B: Batch, G: Gate> Worker<'a, B, G> {
         Some(first)
     }
 
-    // Hands a result in. Repeats the push while the queue is full and the stop flag is not set.
+    // Hands a result in. Retries while the queue is full and the stop flag is not set.
     fn hand_in<R: Wait + Clock>(&mut self, rt: &R, stop: &AtomicBool, done: FinishedOf<B>) {
         let mut patience = Patience::of_helper();
         let mut left = done;

@@ -27,7 +27,7 @@ impl Crew {
     }
 
     /// Splits off the last team, which has its share of the workers, and returns the rest of the crew and that team.
-    /// The team's numbers begin where the numbers of the rest end, and end with the last number of the crew.
+    /// The team's numbers follow the numbers of the rest, and end with the last number of the crew.
     pub(crate) fn cut(self) -> (Crew, Team)
         requires { 1 < self.teams }
         ensures teams { result.0.teams + 1 ≡ self.teams }

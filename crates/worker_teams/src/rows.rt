@@ -1,4 +1,4 @@
-//! The rows of batches of accounts under a compiled set, computed on one thread or by teams of workers.
+//! The rows of batches of accounts under a compiled parameter set, computed on one thread or by teams of workers.
 ghost use Rattle.plan_compiler.specs.Compiled.{SetView};
 ghost use Rattle.span_tables.specs.Net.{AccountHoldings};
 ghost use Rattle.worker_pool.specs.Batches.{AllFit};

@@ -5,9 +5,9 @@ use Rattle.writers.specs.Streams.{Says, Stream}
 use Rattle.desks.specs.Events.{Event, asked_in, told_in}
 use Rattle.desks.specs.Requests.{requests_in, whole_lines}
 
--- The state of a desk over an input and an output: the bytes that the input had at the start, if they are known; the
--- bytes read from it; whether a read failed; what was known of the output at the start, and what is known of it now;
--- and the log.
+-- The state of a desk over an input and an output. `given` is the bytes that the input had at the start, if they are
+-- known, and `received` is the bytes read from it. `unreadable` says whether a read failed. `began` is what was known
+-- of the output at the start, and `output` is what is known of it now. `log` is the list of events.
 pub record Dealings : Type 0 where
   pub given : Option (List ℕ)
   pub received : List ℕ

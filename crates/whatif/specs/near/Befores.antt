@@ -27,7 +27,7 @@ pub record IsMarked (all chosen : List AccountHoldings) (marks : List ℕ) (plac
   pub in_range : slice_index_or marks place 0 < length chosen
   pub portfolio : slice_get chosen (slice_index_or marks place 0) ≡ slice_get all place
 
--- the chosen portfolios fit whatever number of contracts all portfolios fit
+-- if all portfolios fit n contracts, the chosen ones do too
 abbrev pub AllKeepFit : List AccountHoldings → List AccountHoldings → Type 0
 AllKeepFit all chosen =
     (n : ℕ) → All (λ p. fits n p.holdings ≡ true) all → All (λ p. fits n p.holdings ≡ true) chosen

@@ -35,7 +35,7 @@ no_order = record { order = []; before = record { account = []; holdings = [] };
 abbrev pub order_at : TriedOrders → ℕ → TriedOrder
 order_at tried i = slice_index_or tried.orders i no_order
 
--- an order's account has these numbers before it, and this row after it
+-- an order's account has these numbers before the order, and this row after it
 pub record IsTried (t : AcceptedTables) (o : TriedOrder) (before : Numbers) (row : RowView) : Type 0 where
   pub tables_are : row.set.tables ≡ t
   pub before_is : AreNumbers t o.before.holdings before
