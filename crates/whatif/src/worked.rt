@@ -44,8 +44,8 @@ fn credit_between_commodities()
         ≡ Ok (codes "CHANGE,HEDGE,X,D1,AA,1200,600,-600\nCHANGE,HEDGE,X,D1,BB,0,450,450\nORDER,HEDGE,X,D1,1200,1050,-150\n") }
 {}
 
-// One of two short calls worth 120 each is bought back. The amount owed for them is added to the requirement, before and
-// after.
+// One of two short calls worth 120 each is bought back. The amount owed for them is added to the requirement, before
+// and after.
 fn option_values()
     ensures { tried_of (codes "SET,D2,2,USD\n" ++ codes "COMMODITY,AA,500,SUM\n" ++ ca (codes ",120"))
         (codes "X,CA,-2\n") (codes "CLOSE,X,CA,1\n")

@@ -80,7 +80,7 @@ impl queue::Outcome<Finished, PassView<Finished>> for Pushed {
     ghost then = { λ v finished w. w ≡ with_pushed v (finished ∷ []) };
 }
 
-// A push on the queue fails if the queue is full, that is, if the items left fill it.
+// A push on the queue fails only if the queue is full, that is, if the items left fill it.
 impl queue::Lesson<Finished, PassView<Finished>> for Pushed {
     ghost fact = { KnowsLeft };
 }
@@ -222,7 +222,7 @@ pub fn steal_task<B: Batch>(thief: &Thief<B>, pass: &mut DequePass) -> Steal<Tas
     thief.steal_as::<Taken>(pass)
 }
 
-/// Merges a pass into the owner's pass, if the two together have all parts.
+/// Merges a pass into the owner's pass. The two together have all parts.
 ///
 /// Each item pushed with them was taken or is left, as often as it was pushed, and all items are of the batch.
 pub fn settle_deque<B: Batch>(owner: Deque<B>, pass: DequePass) -> Deque<B>
@@ -296,7 +296,7 @@ pub fn pop_result<B: Batch, R: Wait>(
     queue.pop_as::<Taken, R>(rt, pass)
 }
 
-/// Merges the second pass of the queue into the first, if the two together have all parts.
+/// Merges the second pass of the queue into the first. The two together have all parts.
 ///
 /// Each item pushed with them was taken or is left, as often as it was pushed, and all items are of the batch.
 pub fn settle_queue<B: Batch>(
