@@ -1,4 +1,4 @@
--- The faults of the statement of two files are those of the files: a call that gives it names no other.
+-- The statement of two files fails only with faults of these files, and so does a call that returns it.
 use Rattle.std.proofs.Common.{◌≡◌, ℕ, List, Bool, true, false, true≢false, Ok, Err, Result, refl, sym, ap, subst, inl, inr}
 use Rattle.span_csv.specs.ParamFaults.{params_of}
 use Rattle.span_csv.specs.PositionFaults.{positions_of}
@@ -23,7 +23,7 @@ is_of_files (fault.Positions e) = true
 is_of_files (fault.Bind e) = true
 is_of_files e = false
 
--- what holds of each fault of reading, checking and binding holds of each fault of two files
+-- a property of each fault of reading, checking and binding is a property of each fault of two files
 pub each_of_files : (P : SpanFault → Type 0) → ((f : ParamFault) → P (fault.Params f)) → ((f : CheckFault) → P (fault.Check f))
     → ((f : PositionFault) → P (fault.Positions f)) → ((f : BindFault) → P (fault.Bind f))
     → (e : SpanFault) → is_of_files e ≡ true → P e
@@ -42,14 +42,14 @@ each_of_files P params check positions bind (fault.Book f) is = absurd (true≢f
 each_of_files P params check positions bind fault.Shelf is = absurd (true≢false (sym is))
 each_of_files P params check positions bind fault.Memory is = absurd (true≢false (sym is))
 
--- what follows an outcome has such faults alone, where its fault and what follows it have
+-- a sequence of two steps has only faults of two files if both steps have only such faults
 and_then_of_files : {A B F : Type 0} (named : F → SpanFault) (r : Result A F) (next : A → Result B SpanFault) (e : SpanFault)
     → ((f : F) → r ≡ Err f → is_of_files (named f) ≡ true) → ((x : A) → next x ≡ Err e → is_of_files e ≡ true)
     → and_then named r next ≡ Err e → is_of_files e ≡ true
 and_then_of_files named (Ok x) next e first rest is = rest x is
 and_then_of_files named (Err f) next e first rest is = let same_fault : named f ≡ e = cc in rw (← same_fault) (first f refl)
 
--- a fault that follows an outcome, where what follows its value has that fault too
+-- a fault of a sequence of two steps is also the fault of another sequence if its second step has that fault too
 pub fault_stays : {A B C F : Type 0} (named : F → SpanFault) (r : Result A F) (next : A → Result B SpanFault)
     (other : A → Result C SpanFault) (e : SpanFault) → ((x : A) → next x ≡ Err e → other x ≡ Err e)
     → and_then named r next ≡ Err e → and_then named r other ≡ Err e
@@ -82,7 +82,7 @@ statement_of_files params positions e is =
     and_then_of_files fault.Positions (positions_of positions) _ e (λ f h. refl) (λ records.
     bound_of_files tables records e)) is
 
--- a call that gives the statement of two files never says that there are too many workers
+-- a call that returns the statement of two files never fails with `Workers`
 pub never_workers : {Y : Type 0} (text : Y → List ℕ) (r : Result Y SpanFault) (params positions : List ℕ)
     → Gives text r (statement_of params positions) → r ≡ Err fault.Workers → ⊥
 never_workers text (Ok y) params positions gives e = cc

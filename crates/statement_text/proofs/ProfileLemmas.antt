@@ -1,4 +1,4 @@
--- The contracts of a file of profile 1 have no option value, and nothing that is held has.
+-- Under profile 1 no contract of a file has an option value, and neither has a holding.
 use Rattle.std.proofs.Common.{◌≡◌, ◌∙◌, ℕ, zero, suc, ◌+◌, Bool, true, false, cond, List, [], ◌∷◌, length, Option, Some, None}
 use Rattle.std.proofs.Common.{Result, Ok, Err, IfSome, refl, sym, ap, subst, arith, filter, option_map, slice_get}
 use Rattle.std.specs.Prelude.{All, ℤ, pos, ◌*ℤ◌, bytes_eq}
@@ -25,13 +25,13 @@ use Rattle.param_check.specs.declared.faults.CheckFault.{CheckFault}
 use Rattle.statement_text.specs.Statement.{accepted_of, and_then}
 use Rattle.statement_text.specs.declared.faults.SpanFault.TheVariants as fault
 
--- of records that are read
+-- for records that are read
 pub read_values : (params : List ℕ) (records : List Record) → params_of params ≡ Ok records → profile_in records ≡ 1
     → All (λ x. x.extras.option_value ≡ 0) (contracts_in records)
 read_values params records read one =
     params_values params records read (subst (λ n. (facts_of n).options_have_value ≡ false) (sym one) refl)
 
--- accepted tables are those of the records that are read
+-- accepted tables are the tables of the records
 checked_tables : (records : List Record) (tables : AcceptedTables) → checked records ≡ Ok tables → tables_of records ≡ tables
 unfolding checked
 checked_tables records tables e = (ok_parts (check_fault records) (tables_of records) tables e).1
@@ -50,7 +50,7 @@ of_records : (r : Result (List Record) ParamFault) (tables : AcceptedTables)
 of_records (Ok records) tables e = (records, (refl, of_checked (checked records) tables e))
 of_records (Err f) tables e = cc
 
--- of accepted tables
+-- for accepted tables
 pub accepted_values : (params : List ℕ) (tables : AcceptedTables) → accepted_of params ≡ Ok tables → tables.profile ≡ 1
     → All (λ x. x.extras.option_value ≡ 0) tables.contracts
 unfolding accepted_of tables_of
@@ -60,7 +60,7 @@ accepted_values params tables accepted one =
     subst (λ (t : AcceptedTables). All (λ x. x.extras.option_value ≡ 0) t.contracts) same
     (read_values params found.0 found.1.0 (subst (λ (t : AcceptedTables). t.profile ≡ 1) (sym same) one))
 
--- ---- what is held
+-- ---- holdings
 
 -- a contract without an option value
 abbrev IsWorthless : Contract → Type 0
@@ -76,7 +76,7 @@ worthless_at [] none i = tt
 worthless_at (x ∷ contracts) none zero = none.0
 worthless_at (x ∷ contracts) none (suc i) = worthless_at contracts none.1 i
 
--- what is held of such contracts
+-- a holding of such a contract adds no value
 abbrev AddsNothing : HeldContract → Type 0
 AddsNothing h = position_value h ≡ pos 0
 

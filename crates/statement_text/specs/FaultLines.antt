@@ -1,4 +1,4 @@
--- What is said of each fault, its line, and its exit status.
+-- The text of each fault, its line, and its exit status.
 use Rattle.std.specs.Prelude.{ℕ, Bool, if◌then◌else◌, false, true, List, ◌++◌, codes}
 use Rattle.span_csv.specs.FaultTexts.{order_text, param_text, position_text}
 use Rattle.span_csv.specs.ParamFaults as param_fault
@@ -16,7 +16,7 @@ use Rattle.statement_text.specs.declared.faults.SpanFault.TheVariants as fault
 use Rattle.statement_text.specs.declared.statuses.TheConstants.{BOOK_REFUSED, OUT_OF_MEMORY}
 use Rattle.statement_text.specs.declared.statuses.TheConstants.{PARAMETERS_REFUSED, POSITIONS_REFUSED, USAGE}
 
--- memory ran out, whichever stage said so
+-- memory ran out, in any stage
 abbrev pub is_memory : SpanFault → Bool
 is_memory (fault.Params e) = param_fault.is_memory e
 is_memory (fault.Check e) = check_fault.is_memory e
@@ -31,7 +31,7 @@ is_memory (fault.Book e) = book_fault.is_memory e
 is_memory fault.Memory = true
 is_memory _ = false
 
--- what is said of a fault: the file that it is told of, and the fault's own text
+-- the text of a fault: the name of the file, and the fault's own text
 abbrev pub fault_text : SpanFault → List ℕ
 fault_text (fault.Params e) = codes "parameters: " ++ param_text e
 fault_text (fault.Check e) = codes "parameters: " ++ check_text e
@@ -48,7 +48,7 @@ fault_text (fault.Book e) = codes "book: " ++ book_text e
 fault_text fault.Shelf = codes "shelf"
 fault_text fault.Memory = codes "memory"
 
--- the line that says that memory ran out
+-- the line for out of memory
 abbrev pub memory_line : List ℕ
 memory_line = codes "memory\n"
 
@@ -56,8 +56,8 @@ memory_line = codes "memory\n"
 abbrev pub fault_line : SpanFault → List ℕ
 fault_line e = if is_memory e then memory_line else fault_text e ++ codes "\n"
 
--- the exit status of a fault other than out of memory: refused parameters, refused positions or orders, a mistake of usage, or a refusal by
--- a book or a shelf
+-- the exit status of a fault other than out of memory: rejected parameters, rejected positions or orders, a usage
+-- error, or an error of a book or shelf
 abbrev pub refused_status : SpanFault → ℕ
 refused_status (fault.Params e) = PARAMETERS_REFUSED
 refused_status (fault.Check e) = PARAMETERS_REFUSED

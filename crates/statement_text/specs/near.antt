@@ -1,4 +1,4 @@
--- What no promise's words stand on: forms near to the code, samples.
+-- Implementation-level specifications, on which no guarantee depends: samples, and definitions to unfold.
 pub mod OnLiterals
 pub mod Samples
 pub mod SpanFaults

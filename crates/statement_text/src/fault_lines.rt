@@ -1,4 +1,4 @@
-//! The lines that say why there is no statement (docs/FORMATS.md, Fault lines and statuses).
+//! The lines that report why there is no statement (docs/FORMATS.md, Fault lines and statuses).
 ghost use Rattle.statement_text.specs.FaultLines.{fault_line};
 ghost use Rattle.writers.specs.Streams.{Says};
 ghost use Rattle.std.specs.Io.KnownBytes.{Appends};
@@ -40,7 +40,7 @@ pub fn write_fault<W: Write>(fault: &SpanFault, out: &mut W) -> io::Result<()>
     write!(out, "{line}")
 }
 
-/// Writes the line of a fault to a writer that remembers a failed write.
+/// Writes the line of a fault to a writer that remembers whether a write failed.
 pub fn tell_fault<W: Write>(fault: &SpanFault, out: &mut MarkedWriter<W>)
     ensures { Says out.old out.new (fault_line fault.now) }
 {

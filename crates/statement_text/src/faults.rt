@@ -1,4 +1,4 @@
-//! Why there is no statement, and the exit status that says so (docs/FORMATS.md, Fault lines and statuses).
+//! Why there is no statement, and the exit status for it (docs/FORMATS.md, Fault lines and statuses).
 ghost use Rattle.statement_text.specs.FaultLines.{fault_status, is_memory};
 ghost use Rattle.binding.specs.Binding as bind;
 ghost use Rattle.param_check.specs.CheckFaults as check;
@@ -25,31 +25,31 @@ use std::fmt::Display;
 /// Why there is no statement.
 #[derive(Debug, Drop, PartialEq, Eq)]
 pub enum SpanFault {
-    /// The parameter file is not read.
+    /// The parameter file cannot be read.
     Params(ParamFault),
     /// The records of the parameter file break a rule.
     Check(CheckFault),
-    /// The position file is not read.
+    /// The position file cannot be read.
     Positions(PositionFault),
     /// The positions do not fit the tables.
     Bind(BindFault),
-    /// The order file is not read.
+    /// The order file cannot be read.
     Orders(OrderFault),
     /// The orders do not fit the tables and the accounts.
     BindOrders(OrderBindFault),
-    /// The parameter file of the next set is not read.
+    /// The parameter file of the next parameter set cannot be read.
     NextParams(ParamFault),
-    /// The records of the next set's file break a rule.
+    /// The records of the next parameter file break a rule.
     NextCheck(CheckFault),
-    /// The positions do not fit the next set's tables.
+    /// The positions do not fit the tables of the next parameter set.
     NextBind(BindFault),
-    /// E1: an account that the accepted positions do not have.
+    /// E1: no accepted position record has this account.
     UnknownAccount { account: Name },
     /// The number of workers is 0 or over 16.
     Workers,
-    /// The book has no number, or no place, for the rows of a batch.
+    /// The book has no number left for a batch, or cannot take its rows.
     Book(BookFault),
-    /// The next set is not what the shelf has.
+    /// The current parameter set of the shelf is not the next one.
     Shelf,
     /// Out of memory.
     Memory,
@@ -190,7 +190,7 @@ impl From<AllocError> for SpanFault {
 }
 
 impl SpanFault {
-    /// Whether memory ran out, whichever stage said so.
+    /// Returns whether memory ran out, in any stage.
     pub fn is_memory(&self) -> bool
         ensures { result ≡ is_memory self.now }
     {
@@ -211,8 +211,8 @@ impl SpanFault {
     }
 }
 
-/// The exit status of a fault: that of refused parameters, of refused positions or orders, of a mistake of usage, of a book or a
-/// shelf that refused, or of memory that ran out.
+/// Returns the exit status of a fault: for rejected parameters, rejected positions or orders, a usage error, an error
+/// of a book or shelf, or out of memory.
 pub fn status(fault: &SpanFault) -> u8
     ensures { result ≡ fault_status fault.now }
 {

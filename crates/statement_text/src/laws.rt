@@ -1,4 +1,4 @@
-//! Laws of the definitions, in the formats' own words: each is the contract of a function that does nothing.
+//! Lemmas about the definitions, in the terms of the formats. Each is the contract of a function with an empty body.
 #![tactic(auto, unfolding(crate::specs::near::OnLiterals::on_literals))]
 
 ghost use Rattle.binding.specs.Binding.{bindings_of};
@@ -29,7 +29,7 @@ ghost use Rattle.std.specs.List.{range_with_len};
 
 use inter_credit::laws::due_and_excess_settle_the_value;
 
-/// An account has one line for each commodity of which it holds a contract, and then the line of its total.
+/// An account has one line for each commodity in which it holds a contract, and then its T line.
 #[tactic(auto, unfolding(crate::specs::Statement::row_text))]
 pub fn lines_end_with_the_total()
     ensures { (t : AcceptedTables) (p : AccountHoldings) → row_text t p
@@ -37,7 +37,7 @@ pub fn lines_end_with_the_total()
         ++ line (total_line p.account t.set_id (total_numbers t (total_of t p) (option_value_of t p.holdings))) }
 {}
 
-/// If a T line has an option value, its total is the value, more by what is due and less by what is in excess (docs/FORMATS.md, Statement).
+/// If a T line has an option value, its total is the value plus due minus excess (docs/FORMATS.md, Statement).
 #[tactic(auto, unfolding(crate::specs::Statement::total_numbers))]
 pub fn a_total_line_settles_the_value()
     ensures { (t : AcceptedTables) (total value due excess : ℤ)
@@ -46,8 +46,8 @@ pub fn a_total_line_settles_the_value()
     due_and_excess_settle_the_value();
 }
 
-/// No accounts give no bytes, and neither does an empty position file; the lines of some accounts do not depend on the
-/// others, and stand in the order of the accounts.
+/// A statement of no accounts is empty, and so is the statement of an empty position file. The lines of an account do
+/// not depend on other accounts, and come in the order of the accounts.
 pub fn accounts_stand_by_themselves()
     ensures none { (tables : AcceptedTables) → statement_text tables [] ≡ [] }
     ensures no_positions { (tables : AcceptedTables) → statement_under tables [] ≡ Ok [] }
@@ -56,8 +56,8 @@ pub fn accounts_stand_by_themselves()
         → statement_text tables (ps ++ qs) ≡ statement_text tables ps ++ statement_text tables qs }
 {}
 
-/// The fault is the first of reading the parameters; else of checking them; else of reading the positions; else of binding
-/// them. Where there is none, the answer is the statement.
+/// The fault is the first of reading the parameters, or else of checking them, or else of reading the positions, or
+/// else of binding them. If there is none, the answer is the statement.
 pub fn faults_come_in_order()
     ensures params { (params positions : List ℕ) (e : ParamFault) → params_of params ≡ Err e
         → statement_of params positions ≡ Err (fault.Params e) }
@@ -78,14 +78,14 @@ pub fn faults_come_in_order()
         → statement_of params positions ≡ Ok (statement_text tables accounts) }
 {}
 
-/// Out of memory has one line and one status, wherever it arises; and no other fault has that status.
+/// Out of memory has one line and one status, in whatever stage it occurs, and no other fault has that status.
 pub fn want_of_memory_is_told_apart()
     ensures line { (e : SpanFault) → is_memory e ≡ true → fault_line e ≡ memory_line }
     ensures status { (e : SpanFault) → nat_eq (fault_status e) 5 ≡ is_memory e }
 {}
 
-/// Under profile 1 no option has a value: each contract's is 0, in the records of a file that is read and in the tables of one that is
-/// accepted; so their sum over what is held is 0, whatever that is.
+/// Under profile 1 the option value of each contract is 0, in the records of a file that is read and in the tables of
+/// an accepted one. The sum of the values of any holdings is therefore 0.
 pub fn profile_1_has_no_option_values()
     ensures read { (params : List ℕ) (records : List Record) → params_of params ≡ Ok records → profile_in records ≡ 1
         → All (λ x. x.extras.option_value ≡ 0) (contracts_in records) }

@@ -1,4 +1,5 @@
-//! The text of statements: rows and faults as lines, exit statuses, and what the bytes of two files are to give. No thread is known here.
+//! The text of statements: the lines of rows and faults, exit statuses, and the statement of two files as a definition.
+//! This crate does not use threads.
 #![tactic(auto)]
 
 pub mod fault_lines;

@@ -16,7 +16,8 @@ use std::alloc::{AllocError, Global};
 use std::sync::Arc;
 use step_scheduler::rows::Row;
 
-/// The ids behind the word of each line of a commodity: those of the account, the set and the commodity.
+/// Returns the fields that follow the word of each line of a commodity: the ids of the account, the parameter set and
+/// the commodity.
 pub fn ids_of<'a>(account: &'a Name, set_id: &'a Name, commodity: &'a Name) -> [Field<'a>; 3]
     ensures { map field_text result ≡ account.entry.now ∷ set_id.entry.now ∷ commodity.entry.now ∷ [] }
 {
@@ -43,8 +44,8 @@ fn push_commodity(
     push_line_of_numbers(out, "R", &ids, &figures.numbers())
 }
 
-/// Appends the line of an account for the commodity of a number, where it holds a contract of it, and else nothing
-/// (docs/FORMATS.md, Statement: the R line).
+/// Appends the line of an account for the commodity with an index (docs/FORMATS.md, Statement: the R line). Appends
+/// nothing if the account holds no contract of it.
 pub fn push_commodity_of(out: &mut Vec<u8>, row: &Row, number: usize) -> Result<(), AllocError>
     requires { number < length row.now.set.tables.commodities }
     ensures { OnOk result (out.new.items
@@ -63,7 +64,7 @@ pub fn push_commodity_of(out: &mut Vec<u8>, row: &Row, number: usize) -> Result<
     )
 }
 
-// The last line of an account: its total, and the numbers behind it.
+// The last line of an account: its total, and the numbers after it.
 #[tactic(auto, unfolding(crate::specs::Statement::total_line))]
 fn push_total(
     out: &mut Vec<u8>,
@@ -81,7 +82,7 @@ fn push_total(
     push_line_of_numbers(out, "T", &ids, numbers)
 }
 
-/// What an account has to bring after its option value, in minor units.
+/// Returns what an account has to post in addition to its option value, in minor units.
 pub fn due(total: Money, value: Money) -> i128
     ensures value { result ≡ pos (due_of total value) }
     ensures bound { due_of total value ≤ 2 * MAX_MONEY }
@@ -89,15 +90,15 @@ pub fn due(total: Money, value: Money) -> i128
     (total.get() - value.get()).max(0)
 }
 
-// What an account's option value is over its total, in minor units.
+// The excess of an account's option value over its total, in minor units.
 fn excess(total: Money, value: Money) -> i128
     ensures { result ≡ pos (excess_of total value) }
 {
     due(value, total)
 }
 
-/// Appends the last line of an account (docs/FORMATS.md, Statement: the T line). Where options have a value the line has the
-/// account's option value, too, and what follows from that.
+/// Appends the last line of an account (docs/FORMATS.md, Statement: the T line). If options have a value, the line also
+/// has the account's option value, due and excess.
 pub fn push_total_of(out: &mut Vec<u8>, row: &Row) -> Result<(), AllocError>
     ensures { OnOk result (out.new.items ≡ out.old.items ++ line (total_line row.now.portfolio.account row.now.set.tables.set_id
         (total_numbers row.now.set.tables (total_of row.now.set.tables row.now.portfolio)
@@ -129,7 +130,7 @@ pub fn push_row(out: &mut Vec<u8>, row: &Row) -> Result<(), AllocError>
     push_total_of(out, row)
 }
 
-/// Appends the lines of some rows, in their order.
+/// Appends the lines of rows, in their order.
 pub fn push_rows(out: &mut Vec<u8>, rows: &[Arc<Row>]) -> Result<(), AllocError>
     ensures { OnOk result (out.new.items
         ≡ out.old.items ++ flat_map (λ r. row_text r.set.tables r.portfolio) (map arc_value rows.now)) }
@@ -140,7 +141,7 @@ pub fn push_rows(out: &mut Vec<u8>, rows: &[Arc<Row>]) -> Result<(), AllocError>
     Ok(())
 }
 
-/// The statement of some rows, in their order.
+/// Returns the statement of rows, in their order.
 pub fn write(alloc: Global, rows: &[Arc<Row>]) -> Result<Vec<u8>, AllocError>
     ensures { IfOk result (λ text. text.items ≡ flat_map (λ r. row_text r.set.tables r.portfolio) (map arc_value rows.now)) }
 {

@@ -3,13 +3,13 @@
 /// Done.
 pub const DONE: u8 = 0;
 
-/// The words of the command line are no request, or there cannot be so many workers.
+/// The arguments are not a valid command line, or the number of workers is not valid.
 pub const USAGE: u8 = 2;
 
-/// The parameters are refused.
+/// The parameters are rejected.
 pub const PARAMETERS_REFUSED: u8 = 3;
 
-/// The positions are refused.
+/// The positions are rejected.
 pub const POSITIONS_REFUSED: u8 = 4;
 
 /// Out of memory.
@@ -18,5 +18,5 @@ pub const OUT_OF_MEMORY: u8 = 5;
 /// A file cannot be read, or the output cannot be written.
 pub const FILE_FAILED: u8 = 6;
 
-/// A book or a shelf refused what a roll asks of it.
+/// The book or the shelf of a roll failed.
 pub const BOOK_REFUSED: u8 = 7;

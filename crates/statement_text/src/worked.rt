@@ -1,5 +1,4 @@
-//! Whole files with the answer that the definitions give, each computed from the bytes of both files by the
-//! definitions alone.
+//! Test vectors: whole files with their answers, computed by the definitions from the bytes of both files.
 pub mod lines;
 pub mod numbers;
 pub mod refusals;

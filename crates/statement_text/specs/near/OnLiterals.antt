@@ -1,4 +1,4 @@
--- What an answer unfolds to compute the definitions on literals.
+-- The definitions that a proof unfolds to compute on literals.
 use Rattle.std.specs.Prelude.{⊤}
 use Rattle.std.specs.Fmt.{digits}
 use Rattle.span_csv.specs.near.OnLiterals.{reading_on_literals}
@@ -19,7 +19,7 @@ use Rattle.plan_ir.specs.Figures.{inter_states, figures_of, total_to, value_to}
 use Rattle.statement_text.specs.Statement.{figures_line, total_line, row_text, statement_text, accepted_of, portfolios_under}
 use Rattle.statement_text.specs.Statement.{statement_bound, statement_under, statement_of}
 
--- all words that computing on literals unfolds
+-- all names that a computation on literals unfolds
 unfoldable pub on_literals : ⊤
 unfolding digits reading_on_literals keeps_rules is_readable check_fault check_faults checked tables_of intras_of spots_of inters_of
     portfolios_of held_of bind_fault bind_faults bindings_of scenario_sums scan_of month_deltas spread_both_ways after_spreads intra_charge

@@ -27,7 +27,7 @@ ghost use Rattle.statement_text.specs.declared.faults.SpanFault.TheVariants as s
 ghost use Rattle.statement_text.specs.declared.statuses.TheConstants.{DONE, FILE_FAILED};
 ghost use Rattle.std.specs.Prelude.{◌≡◌, ◌++◌, codes, false};
 
-// Parameters that are not read.
+// Parameters that cannot be read.
 fn lines_of_parameters()
     ensures p1 { fault_line (span_fault.Params (params.NoSet 0)) ≡ codes "parameters: P1 NoSet at record 0\n" }
     ensures p2 { fault_line (span_fault.Params (params.SecondSet 3)) ≡ codes "parameters: P2 SecondSet at record 3\n" }
@@ -54,7 +54,7 @@ fn lines_of_rules()
     ensures c11 { fault_line (span_fault.Check (check.DuplicateSpot 12)) ≡ codes "parameters: C11 DuplicateSpot at record 12\n" }
 {}
 
-// Positions that are not read, or do not fit the tables.
+// Positions that cannot be read, or do not fit the tables.
 fn lines_of_positions()
     ensures q1 { fault_line (span_fault.Positions (positions.FieldCount 1)) ≡ codes "positions: Q1 FieldCount at record 1\n" }
     ensures q2 { fault_line (span_fault.Positions (positions.BadName 1)) ≡ codes "positions: Q2 BadName at record 1\n" }
@@ -70,7 +70,7 @@ fn lines_of_positions()
         ≡ codes "positions: B3 TooManyHeld at record 3 account A_B\n" }
 {}
 
-// Orders that are not read, or do not fit the tables or the accounts.
+// Orders that cannot be read, or do not fit the tables or the accounts.
 fn lines_of_orders()
     ensures o1 { fault_line (span_fault.Orders (orders.FieldCount 1)) ≡ codes "orders: O1 FieldCount at record 1\n" }
     ensures o2 { fault_line (span_fault.Orders (orders.BadName 1)) ≡ codes "orders: O2 BadName at record 1\n" }
@@ -88,14 +88,15 @@ fn lines_of_orders()
     ensures memory_of_binding { fault_line (span_fault.BindOrders bind_orders.OutOfMemory) ≡ codes "memory\n" }
 {}
 
-// An account that the positions do not have.
+// An account that has no positions.
 fn lines_of_unknown_accounts()
     ensures short { fault_line (span_fault.UnknownAccount (codes "X")) ≡ codes "positions: E1 UnknownAccount account X\n" }
     ensures long { fault_line (span_fault.UnknownAccount (codes "ACCOUNT-1234567_"))
         ≡ codes "positions: E1 UnknownAccount account ACCOUNT-1234567_\n" }
 {}
 
-// A fault under the next set has the line and the status of that fault under today's, with `next` in front of its file.
+// A fault under the next parameter set has the line and the status of the same fault under today's, with `next` before
+// the file's name.
 fn faults_of_the_next_set()
     ensures parameters { (e : ParamFault) → param_fault.is_memory e ≡ false
         → fault_line (span_fault.NextParams e) ≡ codes "next " ++ fault_line (span_fault.Params e) }
@@ -113,7 +114,7 @@ fn faults_of_the_next_set()
     ensures status_of_binding { (e : BindFault) → fault_status (span_fault.NextBind e) ≡ fault_status (span_fault.Bind e) }
 {}
 
-// What a book refused.
+// The faults of a book.
 fn lines_of_a_book()
     ensures k1 { fault_line (span_fault.Book book.NoSuchBatch) ≡ codes "book: K1 NoSuchBatch\n" }
     ensures k2 { fault_line (span_fault.Book book.AlreadyThere) ≡ codes "book: K2 AlreadyThere\n" }
@@ -121,7 +122,7 @@ fn lines_of_a_book()
     ensures memory { fault_line (span_fault.Book book.OutOfMemory) ≡ codes "memory\n" }
 {}
 
-// Workers, a shelf and out of memory, also of a stage.
+// The number of workers, a shelf, and out of memory, also in a stage.
 fn lines_of_the_rest()
     ensures workers { fault_line span_fault.Workers ≡ codes "workers: L1 Workers\n" }
     ensures shelf { fault_line span_fault.Shelf ≡ codes "shelf\n" }
@@ -150,7 +151,7 @@ fn statuses_of_faults()
     ensures shelf { fault_status span_fault.Shelf ≡ 7 }
 {}
 
-// The status of out of memory, also of a stage or a book.
+// The status of out of memory, also in a stage or a book.
 fn statuses_of_want_of_memory()
     ensures memory { fault_status span_fault.Memory ≡ 5 }
     ensures parameters { fault_status (span_fault.Params params.OutOfMemory) ≡ 5 }

@@ -1,4 +1,4 @@
-//! What more than one stage says of a file, computed by the definitions.
+//! Facts about a file that concern more than one stage, computed by the definitions.
 #![tactic(auto, unfolding(crate::specs::near::OnLiterals::on_literals))]
 
 ghost use Rattle.span_csv.specs.ParamFaults.{params_of};

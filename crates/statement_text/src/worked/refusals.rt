@@ -1,4 +1,4 @@
-//! Files and the fault that refuses them, computed by the definitions.
+//! Files and the fault for which they are rejected, computed by the definitions.
 #![tactic(auto, unfolding(crate::specs::near::OnLiterals::on_literals))]
 
 ghost use Rattle.std.specs.List.{repeat};
@@ -14,7 +14,7 @@ ghost use Rattle.param_check.specs.declared.faults.CheckFault.TheVariants as che
 ghost use Rattle.span_csv.specs.declared.faults.PositionFault.TheVariants as positions;
 ghost use Rattle.binding.specs.declared.faults.BindFault.TheVariants as bind;
 
-// Parameters that are not read: an empty file, a second set, an unclosed quote, a cut record.
+// Parameters that cannot be read: an empty file, a second SET record, an unclosed quote, a truncated record.
 fn parameters_without_their_form()
     ensures empty { statement_of [] [] ≡ Err (span_fault.Params (params.NoSet 0)) }
     ensures second_set { statement_of (one_commodity ++ set_d1) [] ≡ Err (span_fault.Params (params.SecondSet 3)) }
@@ -24,7 +24,7 @@ fn parameters_without_their_form()
         ≡ Err (span_fault.Params (params.FieldCount 3)) }
 {}
 
-// A value that is no whole number, and one over its range.
+// A value that is not a whole number, and one that is out of range.
 fn values()
     ensures exponent { statement_of (one_commodity
         ++ codes "CONTRACT,FA,AA,F,202503,1,1,1e8,0,-400,-400,400,400,-800,-800,800,800,-1200,-1200,1200,1200,-1188,1188\n")
@@ -36,7 +36,7 @@ fn values()
         ≡ Err (span_fault.Params (params.OutOfRange 3)) }
 {}
 
-// One tier of a commodity too many behind those that count, and one commodity.
+// One tier too many in a commodity, after the counted ones, and one commodity too many.
 fn too_many_of_a_kind()
     ensures tiers { exceeds_limit (repeat MAX_TIERS ((codes "TIER" ∷ codes "AA" ∷ codes "1" ∷ []) ∷ []))
         (codes "TIER" ∷ codes "AA" ∷ codes "2" ∷ []) (Some kind.Tier) ≡ true }
@@ -46,13 +46,14 @@ fn too_many_of_a_kind()
         (codes "COMMODITY" ∷ codes "BB" ∷ []) (Some kind.Commodity) ≡ true }
 {}
 
-// One spot month of a commodity too many, in a file.
+// A file with one spot month too many in a commodity.
 fn too_many_spot_months()
     ensures { statement_of (one_commodity ++ repeat (MAX_SPOT_MONTHS + 1) (codes "SPOT,AA,202503,10,20\n")) []
         ≡ Err (span_fault.Params (params.TooMany (MAX_SPOT_MONTHS + 3))) }
 {}
 
-// A commodity and a contract that stand twice; and a contract of an unknown commodity, which counts before tiers that overlap.
+// A duplicate commodity, a duplicate contract, and a contract of an unknown commodity, which is reported before
+// overlapping tiers.
 fn commodities_and_contracts()
     ensures duplicate_commodity { statement_of (one_commodity ++ commodity (codes "AA")) []
         ≡ Err (span_fault.Check (check.DuplicateCommodity 3)) }
@@ -63,7 +64,8 @@ fn commodities_and_contracts()
         ≡ Err (span_fault.Check (check.UnknownCommodity 5)) }
 {}
 
-// Tiers that share a month; a tier that stands twice, and so overlaps too; and one backwards.
+// Tiers that share a month; a duplicate tier, which therefore overlaps too; and a tier whose last month is before its
+// first.
 fn tiers()
     ensures overlap { statement_of (one_commodity ++ codes "TIER,AA,1,202501,202506\n" ++ codes "TIER,AA,2,202506,202512\n") []
         ≡ Err (span_fault.Check (check.TierOverlap 4)) }
@@ -73,8 +75,8 @@ fn tiers()
         ≡ Err (span_fault.Check (check.TierBackwards 3)) }
 {}
 
-// Spreads with an unknown tier; with a leg that stands twice, of which the first is one-sided too; with one side alone; and with
-// the priority of another.
+// Spreads with an unknown tier; with a duplicate leg, one of them also one-sided; with only one side; and with a
+// duplicate priority.
 fn spreads()
     ensures unknown_tier { statement_of (one_commodity
         ++ codes "TIER,AA,1,202501,202504\n" ++ codes "INTRA,AA,1,250,1,A,1,2,B,1\n")
@@ -94,14 +96,14 @@ fn spreads()
         ≡ Err (span_fault.Check (check.DuplicatePriority 6)) }
 {}
 
-// A spot month that stands twice.
+// A duplicate spot month.
 fn duplicate_spot()
     ensures { statement_of (one_commodity ++ codes "SPOT,AA,202503,10,20\n" ++ codes "SPOT,AA,202503,10,20\n") []
         ≡ Err (span_fault.Check (check.DuplicateSpot 4)) }
 {}
 
-// Positions that are not read: two fields, a small letter, a point in a quantity, quantities over their range, of which that of
-// nineteen digits is no number.
+// Positions that cannot be read: two fields, a lowercase letter, a decimal point in a quantity, and quantities out of
+// range. The quantity of nineteen digits is not a number.
 fn positions_that_are_not_read()
     ensures fields { statement_of one_future (codes "X,FA\n") ≡ Err (span_fault.Positions (positions.FieldCount 1)) }
     ensures name { statement_of one_future (codes "x,FA,1\n") ≡ Err (span_fault.Positions (positions.BadName 1)) }
@@ -113,8 +115,8 @@ fn positions_that_are_not_read()
         ≡ Err (span_fault.Positions (positions.BadNumber 1)) }
 {}
 
-// Positions that do not fit: an unknown contract, a net over the limit, and both, where the contract counts first though its
-// record is later.
+// Positions that do not fit: an unknown contract, a net over the limit, and both, in which case the contract is
+// reported although its record is later.
 fn positions_that_do_not_fit()
     ensures unknown_contract { statement_of one_future (codes "X,FZ,1\n")
         ≡ Err (span_fault.Bind (bind.UnknownContract 1 (codes "X"))) }

@@ -10,7 +10,7 @@ ghost use Rattle.statement_text.specs.near.Samples.{long_of_x, short_of_x, sprea
 ghost use Rattle.statement_text.specs.near.Samples.{two_tiers};
 ghost use Rattle.statement_text.specs.Statement.{figures_line, statement_of, total_line};
 
-// The line of a commodity and that of a total.
+// The line of a commodity and the line of a total.
 fn lines_of_a_row()
     ensures figures { line (figures_line (codes "X-1") (codes "D_1") (codes "AA")
         (figures_with (pos 1200) 13 (pos 500) (pos 40) (pos 7) (pos 0) (pos 1733)))
@@ -21,7 +21,8 @@ fn lines_of_a_row()
         ≡ codes "T,Z,D_2,1700,-480,2180,0\n" }
 {}
 
-// A future that is long, and short; positions that cancel out; and a record over the limit of a net, which is within it.
+// A long future, a short one, positions that cancel out, and a record over the limit of a net whose sum is within the
+// limit.
 fn one_account()
     ensures long { statement_of one_future (codes "X,FA,1\n")
         ≡ Ok long_of_x }
@@ -32,7 +33,7 @@ fn one_account()
         ≡ Ok (codes "R,X,D1,AA,120000000,13,0,0,0,0,120000000\nT,X,D1,120000000\n") }
 {}
 
-// Accounts stand in the order of first appearance; an empty position file has none.
+// Accounts come in order of first appearance; an empty position file has none.
 fn accounts()
     ensures two { statement_of one_future (codes "Y,FA,1\nX,FA,-1\nY,FA,1\n")
         ≡ Ok (codes "R,Y,D1,AA,2400,13,0,0,0,0,2400\nT,Y,D1,2400\nR,X,D1,AA,1200,11,0,0,0,0,1200\nT,X,D1,1200\n") }
@@ -47,7 +48,7 @@ fn other_bytes_for_the_same_records()
         ≡ Ok long_of_x }
 {}
 
-// A contract before its commodity, and spreads before those of lower priority number.
+// A contract before its commodity, and a spread before spreads with a lower priority number.
 fn records_in_any_order()
     ensures { statement_of (
         set_d1 ++ fa ++ fa2
@@ -61,8 +62,8 @@ fn records_in_any_order()
         ≡ Ok spreads_of_x }
 {}
 
-// An intracommodity spread with a spot month: side A long, side A short, and a third of a spread, whose two charges are
-// rounded up.
+// An intracommodity spread with a spot month: side A long, side A short, and a third of a spread, for which both
+// charges are rounded up.
 fn one_spread()
     ensures first_direction { statement_of (spread_and_spot (codes "D1") (codes "250,1,A,1,2,B,1")) (codes "X,FA,3\nX,FA2,-2\n")
         ≡ Ok spreads_of_x }
@@ -82,7 +83,7 @@ fn earliest_month_first()
         ≡ Ok (codes "R,X,D1,AA,1200,13,500,30,0,0,1730\nT,X,D1,1730\n") }
 {}
 
-// A spread within one tier; and where the order of the directions matters, side A is long first.
+// A spread within one tier; if the order of the directions matters, the direction with side A long comes first.
 fn spreads_within_a_tier()
     ensures formed { statement_of (one_tier (codes "250,1,A,1,1,B,1")) (codes "X,FA,2\nX,FA2,-1\n")
         ≡ Ok (codes "R,X,D1,AA,1200,13,250,0,0,0,1450\nT,X,D1,1450\n") }
@@ -90,7 +91,8 @@ fn spreads_within_a_tier()
         ≡ Ok (codes "R,X,D1,AA,1200,13,150,0,0,0,1350\nT,X,D1,1350\n") }
 {}
 
-// Of two spreads the lower priority number goes first, and the sum of the charges is rounded once; and a spread of three legs.
+// If there are two spreads, the one with the lower priority number comes first, and the sum of the charges is rounded
+// once; and a spread of three legs.
 fn spreads_of_three_tiers()
     ensures two_spreads { statement_of (
         three_tiers ++ codes "INTRA,AA,2,42,1,A,4,3,B,4\n" ++ codes "INTRA,AA,1,101,1,A,4,2,B,4\n")
@@ -101,7 +103,8 @@ fn spreads_of_three_tiers()
         ≡ Ok (codes "R,X,D1,AA,0,1,70,0,0,0,70\nT,X,D1,70\n") }
 {}
 
-// An intercommodity spread: two long sides form none; credits are rounded down; half a spread of unequal ratios.
+// An intercommodity spread: two long sides form none, credits are rounded down, and half a spread of unequal ratios
+// forms.
 fn credits()
     ensures one { statement_of (two_commodities fa (codes "5000,AA,A,1,BB,B,1")) (codes "X,FA,1\nX,FB,-2\n")
         ≡ Ok (codes "R,X,D1,AA,1200,13,0,0,600,0,600\nR,X,D1,BB,1800,11,0,0,450,0,1350\nT,X,D1,1950\n") }
@@ -113,14 +116,14 @@ fn credits()
         ≡ Ok (codes "R,X,D1,AA,1200,13,0,0,600,0,600\nR,X,D1,BB,1800,11,0,0,675,0,1125\nT,X,D1,1725\n") }
 {}
 
-// A net delta of 0 has no credit.
+// A net delta of 0 earns no credit.
 fn no_net_delta()
     ensures { statement_of (two_commodities (future (codes "FZ,AA,F,202503,0")) (codes "5000,AA,A,1,BB,B,1"))
         (codes "X,FZ,1\nX,FB,-2\n")
         ≡ Ok (codes "R,X,D1,AA,1200,13,0,0,0,0,1200\nR,X,D1,BB,1800,11,0,0,0,0,1800\nT,X,D1,3000\n") }
 {}
 
-// The second intercommodity spread has what the first left, which may be nothing.
+// The second intercommodity spread uses what the first left, which may be nothing.
 fn credits_of_two_spreads()
     ensures some_left { statement_of three_commodities (codes "X,FA,3\nX,FB,-1\nX,FC,-1\n")
         ≡ Ok (codes "R,X,D1,AA,3600,13,0,0,840,0,2760\nR,X,D1,BB,900,11,0,0,450,0,450\n"
@@ -130,7 +133,7 @@ fn credits_of_two_spreads()
         ++ codes "R,X,D1,CC,300,11,0,0,0,0,300\nT,X,D1,1350\n") }
 {}
 
-// Intercommodity spreads begin from the full net delta, whatever intracommodity spreads used.
+// Intercommodity spreads begin from the full net delta, regardless of what intracommodity spreads used.
 fn spreads_of_both_kinds()
     ensures { statement_of (
         one_commodity ++ commodity (codes "BB") ++ fa ++ fa2 ++ fb ++ two_tiers
@@ -140,7 +143,7 @@ fn spreads_of_both_kinds()
         ≡ Ok (codes "R,X,D1,AA,1200,13,250,0,600,0,850\nR,X,D1,BB,2700,11,0,0,450,0,2250\nT,X,D1,3100\n") }
 {}
 
-// A call that gains in every scenario; and the short option minimum, by SUM and by MAX.
+// A call that gains in every scenario, and the short option minimum by SUM and by MAX.
 fn options()
     ensures no_loss { statement_of (one_commodity ++ ca []) (codes "X,CA,1\n")
         ≡ Ok (codes "R,X,D1,AA,0,10,0,0,0,0,0\nT,X,D1,0\n") }
@@ -150,8 +153,8 @@ fn options()
         ≡ Ok (codes "R,X,D1,AA,40,11,0,0,0,1500,1500\nT,X,D1,1500\n") }
 {}
 
-// Two short calls worth 120 each and three short puts worth 80 each: what is owed for them comes to the minimum. And a long
-// call, worth more than the nothing that it requires.
+// Two short calls worth 120 each and three short puts worth 80 each, for which the amount due is the minimum plus their
+// value; and a long call, which is worth more than its requirement of 0.
 fn options_with_value()
     ensures short { statement_of (
         codes "SET,D2,2,USD\n" ++ codes "COMMODITY,AA,500,SUM\n" ++ ca (codes ",120") ++ pa (codes ",80"))
