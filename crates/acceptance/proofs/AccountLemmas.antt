@@ -1,4 +1,4 @@
--- No account has two of the portfolios that positions are bound to.
+-- The portfolios of bound positions have distinct accounts.
 use Rattle.std.proofs.Common.{◌≡◌, ◌∙◌, ℕ, Bool, true, false, not, cond}
 use Rattle.std.proofs.Common.{List, [], ◌∷◌, map, filter}
 use Rattle.std.proofs.Common.{Option, Some, None, Ok, bytes_eq, refl, sym, ap, subst}
@@ -14,7 +14,7 @@ use Rattle.span_tables.specs.declared.records.Contract.{Contract}
 use Rattle.span_tables.specs.declared.records.PositionRecord.{PositionRecord}
 use Rattle.acceptance.specs.near.Accepting.{AreOnce}
 
--- the name is none of the others
+-- the name differs from all others
 unfoldable pub IsNew : List ℕ → List (List ℕ) → Type 0
 IsNew name others = AllByRecursion (λ other. bytes_eq name other ≡ false) others
 
@@ -64,7 +64,7 @@ accounts_back contracts positions [] = refl
 accounts_back contracts positions (account ∷ accounts) =
     ap (λ others. account ∷ others) (accounts_back contracts positions accounts)
 
--- no account has two of the portfolios
+-- the portfolios have distinct accounts
 pub bound_once : (contracts : List Contract) (positions : List PositionRecord) (portfolios : List AccountHoldings)
     → bindings_of contracts positions ≡ Ok portfolios → AreOnce portfolios
 unfolding bindings_of portfolios_of

@@ -1,4 +1,4 @@
--- What is found of the records of a position file, and what slices of its accounts hold.
+-- The contracts found for the records of a position file, and the holdings of slices of its accounts.
 use Rattle.std.proofs.Common.{◌≡◌, ℕ, zero, suc, ◌+◌, ◌-◌, ◌≤◌, List, [], ◌∷◌, ◌++◌, drop, map, take, not, refl, sym, ap, ◌∙◌, arith}
 use Rattle.std.proofs.Common.{length}
 use Rattle.std.specs.Prelude.{Bool, true, false}
@@ -12,7 +12,7 @@ use Rattle.binding.specs.near.Ledgers.{contract_place, slice_nets}
 use Rattle.binding.specs.near.Nets.{entries_of}
 use Rattle.binding.specs.near.Sums.{kept_holdings}
 
--- what is found of records is the same of the records that they stand for
+-- the contracts found for numbered records are the contracts found for the records they represent
 pub found_of_records : (ids : List (List ℕ)) (positions : List PositionRecord) (records : List NumberedPosition) (found : List ℕ)
     → named_positions (accounts_of positions) records ≡ positions
     → found ≡ map (λ p. contract_place ids p.contract) records → found ≡ map (λ p. contract_place ids p.contract) positions
@@ -21,7 +21,7 @@ found_of_records ids positions records found are is =
     ∙ sym (map-map (λ (p : PositionRecord). contract_place ids p.contract) (named_position (accounts_of positions)) records)
     ∙ ap (map (λ (p : PositionRecord). contract_place ids p.contract)) are
 
--- where not all are said to be of contracts that there are not, none is of another
+-- if all contracts are reported as known, none is unknown
 pub none_foreign : (told foreign : Bool) → told ≡ not foreign → told ≡ true → foreign ≡ false
 none_foreign told true e h = cc
 none_foreign told false e h = refl
@@ -50,7 +50,7 @@ dropped_twice (suc f) a (x ∷ xs) =
     let e : suc (f + a) ≡ suc f + a = omega arith in
     dropped_twice f a xs ∙ ap (λ n. drop n (x ∷ xs)) e
 
--- the nets of accounts are those of some of them, and behind these those of the others
+-- the nets of a slice of accounts are the nets of its first part followed by the nets of the remainder
 pub slices_join : (ids : List (List ℕ)) (positions : List PositionRecord) (f a c : ℕ) → a ≤ c
     → slice_nets ids positions f a ++ slice_nets ids positions (f + a) (c - a) ≡ slice_nets ids positions f c
 unfolding slice_nets

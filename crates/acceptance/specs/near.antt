@@ -1,2 +1,2 @@
--- What no promise's words stand on: what two accepted files say.
+-- Implementation-level specifications, on which no guarantee depends: the content of two accepted files.
 pub mod Accepting

@@ -1,4 +1,5 @@
-//! What two files say, or their first fault: accepted tables, a compiled set, and the portfolios of positions under it.
+//! The content of two files, or their first fault: accepted tables, a compiled parameter set, and the portfolios of
+//! positions under it.
 ghost use Rattle.plan_compiler.specs.Compiled.{SetView};
 ghost use Rattle.span_tables.specs.Net.{AccountHoldings};
 ghost use Rattle.span_tables.specs.Tables.{AcceptedTables};
@@ -28,7 +29,7 @@ use std::sync::Arc;
 use std::thread;
 use std::thread::Threads;
 
-/// The accepted tables of a parameter file, or the first fault in reading it and checking it.
+/// Returns the accepted tables of a parameter file, or the first fault in reading it and checking it.
 #[tactic(auto, unfolding(statement_text::specs::Statement::accepted_of))]
 pub fn tables_of(alloc: Global, params: &[u8]) -> Result<Tables, SpanFault>
     ensures { Gives (λ (tables : AcceptedTables). tables) result (accepted_of params.now) }
@@ -38,7 +39,7 @@ pub fn tables_of(alloc: Global, params: &[u8]) -> Result<Tables, SpanFault>
     Ok(tables)
 }
 
-// Accepted tables with their plan, to be shared.
+// Accepted tables with their plan, behind a shared pointer.
 fn compiled(alloc: Global, tables: Tables) -> Result<Arc<CompiledSet>, AllocError>
     ensures { IfOk result (λ set. (arc_value set).tables ≡ tables) }
 {
@@ -46,7 +47,8 @@ fn compiled(alloc: Global, tables: Tables) -> Result<Arc<CompiledSet>, AllocErro
     Ok(Arc::new(alloc, set)?)
 }
 
-/// The compiled set of a parameter file, to be shared, or the first fault in reading it and checking it.
+/// Returns the compiled parameter set of a file, behind a shared pointer, or the first fault in reading it and checking
+/// it.
 pub fn set_of(alloc: Global, params: &[u8]) -> Result<Arc<CompiledSet>, SpanFault>
     ensures { Gives (λ (set : Arc SetView Global). (arc_value set).tables) result (accepted_of params.now) }
 {
@@ -55,7 +57,7 @@ pub fn set_of(alloc: Global, params: &[u8]) -> Result<Arc<CompiledSet>, SpanFaul
     Ok(set)
 }
 
-/// The portfolios of positions under a compiled set, or their fault.
+/// Returns the portfolios of positions under a compiled parameter set, or their fault.
 #[tactic(auto, unfolding(statement_text::specs::Statement::portfolios_under))]
 pub(crate) fn portfolios_of(
     alloc: Global,
@@ -71,8 +73,8 @@ pub(crate) fn portfolios_of(
     Ok(portfolios)
 }
 
-/// The portfolios of positions under a compiled set, or their fault, as [`portfolios_of`] has them. A large position file is bound in
-/// slices, side by side.
+/// Returns the portfolios of positions under a compiled parameter set, or their fault, as [`portfolios_of`] does. A
+/// large position file is bound in slices, concurrently.
 #[tactic(auto, unfolding(statement_text::specs::Statement::portfolios_under))]
 pub fn portfolios_together<R: Threads + Sync>(
     rt: &R,
@@ -90,18 +92,19 @@ pub fn portfolios_together<R: Threads + Sync>(
     Ok(portfolios)
 }
 
-/// What two accepted files say: a compiled set, the positions, and their portfolios under that set.
+/// The content of two accepted files: a compiled parameter set, the positions, and their portfolios under that set.
 #[derive(Drop)]
 pub struct Accepted {
     /// The tables of the parameters, with their plan.
     pub set: Arc<CompiledSet>,
     /// The records of the positions.
     pub positions: RawPositions,
-    /// What each account holds, in the order of first appearance.
+    /// The holdings of each account, in order of first appearance.
     pub portfolios: Portfolios,
 }
 
-// What an accepted set and the positions of a file say, whose portfolios under the set, or the fault in binding them, are these.
+// The content of two files, from an accepted parameter set, the positions, and their portfolios under the set or the
+// fault in binding them.
 #[tactic(auto, unfolding(statement_text::specs::Statement::statement_bound))]
 fn accept_positions(
     set: Arc<CompiledSet>,
@@ -125,8 +128,8 @@ fn accept_positions(
     })
 }
 
-/// What two files say, or the first fault: in reading the parameters, in checking them, in reading the positions, in
-/// binding them; or out of memory.
+/// Returns the content of two files, or the first fault, in this order: reading the parameters, checking them, reading
+/// the positions, binding them. Fails with `Memory` if memory runs out.
 #[tactic(auto, unfolding(statement_text::specs::Statement::statement_of, statement_text::specs::Statement::statement_under))]
 pub fn accept(alloc: Global, params: &[u8], positions: &[u8]) -> Result<Accepted, SpanFault>
     ensures text { Gives (λ (a : Accepted). statement_text (arc_value a.set).tables a.portfolios)
@@ -139,9 +142,10 @@ pub fn accept(alloc: Global, params: &[u8], positions: &[u8]) -> Result<Accepted
     accept_positions(set, positions, bound)
 }
 
-/// What two files say, or the first fault, as [`accept`] has it. With two workers or more a thread of its own reads, checks and
-/// compiles the parameters beside reading the positions, and a large position file is read in pieces and bound in slices, side by
-/// side; where no thread is started, one is done after the other. The order of the faults is the same.
+/// Returns the content of two files, or the first fault, as [`accept`] does. With two workers or more, a thread reads,
+/// checks and compiles the parameters while the positions are read. A large position file is read in pieces and bound
+/// in slices, concurrently. If no thread can be started, the steps run one after the other. The order of the faults is
+/// the same.
 #[tactic(auto, unfolding(statement_text::specs::Statement::statement_of, statement_text::specs::Statement::statement_under))]
 pub fn accept_together<R: Threads + Sync>(
     rt: &R,

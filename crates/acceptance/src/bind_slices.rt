@@ -1,4 +1,4 @@
-//! Positions that are bound in several threads.
+//! Positions that are bound by several threads.
 ghost use Rattle.binding.specs.Binding.{bindings_of, is_memory};
 ghost use Rattle.binding.specs.near.Ledgers.{contract_place, slice_nets};
 ghost use Rattle.span_tables.specs.Gives.{Gives};
@@ -19,10 +19,11 @@ use std::alloc::{AllocError, Global};
 use std::thread;
 use std::thread::Threads;
 
-// Positions are bound in no more slices than they have so many records.
+// The minimum number of records for each slice.
 const SLICE_RECORDS: usize = 2048;
 
-// The places of the contracts of records, of so many slices of them, each in a thread of its own where one can be started.
+// The indices of the contracts of records. They are looked up in this many slices, each in its own thread if one can be
+// started.
 #[cycle(find)]
 fn find_in_slices<R: Threads + Sync>(
     rt: &R,
@@ -53,7 +54,8 @@ fn find_in_slices<R: Threads + Sync>(
     Ok(found)
 }
 
-// What so many accounts from one on hold, of so many slices of them, each in a thread of its own where one can be started.
+// The holdings of a range of accounts. They are added up in this many slices, each in its own thread if one can be
+// started.
 #[cycle(nets)]
 fn nets_in_slices<R: Threads + Sync>(
     rt: &R,
@@ -96,8 +98,8 @@ fn nets_in_slices<R: Threads + Sync>(
     Ok(nets)
 }
 
-// What each account holds, or the fault of the positions, as [`bind`] has it, in so many slices. Of a record of a contract that there is
-// not `bind` tells the fault.
+// The holdings of each account, or the fault of the positions, as [`bind`] returns them, computed in this many slices.
+// If a record has an unknown contract, `bind` finds the fault.
 fn bind_in_slices<R: Threads + Sync>(
     rt: &R,
     alloc: Global,
@@ -117,8 +119,9 @@ fn bind_in_slices<R: Threads + Sync>(
     binder.bound(alloc, nets, positions)
 }
 
-/// What each account holds, or the fault of the positions, as [`bind`] has it. Of a large position file the contracts are looked up, and
-/// the nets added up, in as many slices as there are workers, or fewer, each in a thread of its own where one can be started.
+/// Returns the holdings of each account, or the fault of the positions, as [`bind`] does. For a large position file,
+/// the contracts are looked up and the nets added up in at most as many slices as there are workers, each in its own
+/// thread if one can be started.
 pub(crate) fn bind_together<R: Threads + Sync>(
     rt: &R,
     alloc: Global,

@@ -1,4 +1,5 @@
-//! Two files that are accepted: read, checked, compiled and bound, on one thread or on several, or refused for their first fault.
+//! Acceptance of two files: they are read, checked, compiled and bound, on one thread or on several, or rejected for
+//! their first fault.
 #![tactic(auto)]
 
 pub mod accepting;

@@ -1,4 +1,4 @@
-//! Position files that are read in several threads.
+//! Position files that are read by several threads.
 ghost use Rattle.span_csv.specs.PositionFaults.{is_memory, positions_of};
 ghost use Rattle.span_csv.specs.near.Pieces.{piece_of, records_together, HasAccounts, StandFor};
 ghost use Rattle.span_tables.specs.Gives.{Gives};
@@ -16,7 +16,7 @@ use std::alloc::{AllocError, Global};
 use std::thread;
 use std::thread::Threads;
 
-// What is read of each of these pieces, one after the other. `None` if one of them has a fault.
+// The records of each of these pieces, read one after the other. `None` if one of them has a fault.
 fn read_in_turn(alloc: Global, pieces: &[&[u8]]) -> Result<Option<Vec<Piece>>, AllocError>
     ensures { IfOk result (λ answer. IfSome answer (λ read. map Some read.items ≡ map (λ piece. piece_of piece.now) pieces.now)) }
 {
@@ -30,7 +30,8 @@ fn read_in_turn(alloc: Global, pieces: &[&[u8]]) -> Result<Option<Vec<Piece>>, A
     Ok(Some(read))
 }
 
-// What is read of each of these pieces, in a thread of its own where one can be started. `None` if one of them has a fault.
+// The records of each of these pieces, each read in its own thread if one can be started. `None` if one of them has a
+// fault.
 #[cycle(pieces)]
 fn read_pieces<R: Threads + Sync>(
     rt: &R,
@@ -64,7 +65,7 @@ fn read_pieces<R: Threads + Sync>(
     Ok(Some(read))
 }
 
-// The records of the piece, if there is one, numbered by the accounts of all.
+// The records of the piece, if there is one, with accounts numbered over all pieces.
 fn number_one(
     alloc: Global,
     accounts: &AllAccounts,
@@ -79,8 +80,8 @@ fn number_one(
     }
 }
 
-// The records of pieces, one piece behind the other, numbered by the accounts of all: of each piece in a thread of its own where one can be
-// started.
+// The records of pieces, one piece after the other, with accounts numbered over all pieces. Each piece is numbered in
+// its own thread if one can be started.
 #[cycle(numbering)]
 fn number_pieces<R: Threads + Sync>(
     rt: &R,
@@ -112,8 +113,8 @@ fn number_pieces<R: Threads + Sync>(
     Ok(records)
 }
 
-// The records of a position file that is cut into these pieces, which have its records, in their order: read, and then numbered by the
-// accounts of all, side by side. `None` if a piece has a fault, or if all have more accounts than there may be.
+// The records of a position file that is cut into these pieces. The pieces are read and then numbered over all
+// accounts, concurrently. `None` if a piece has a fault, or if all pieces together have too many accounts.
 fn put_together<R: Threads + Sync>(
     rt: &R,
     alloc: Global,
@@ -132,9 +133,9 @@ fn put_together<R: Threads + Sync>(
     Ok(Some(accounts.positions(records)))
 }
 
-/// The records of a position file, or its first fault, as [`read_positions`] reads it. A large file without a double quote is read in as
-/// many pieces as there are workers, or fewer, each in a thread of its own where one can be started. If it has a fault, what was read is
-/// dropped, and the whole file is read again on one thread.
+/// Returns the records of a position file, or its first fault, as [`read_positions`] does. A large file without a
+/// double quote is read in at most as many pieces as there are workers, each in its own thread if one can be started.
+/// If it has a fault, what was read is dropped, and the whole file is read again on one thread.
 pub(crate) fn read_together<R: Threads + Sync>(
     rt: &R,
     alloc: Global,

@@ -1,7 +1,8 @@
-//! Lists that are cut into slices, for threads beside one another.
+//! Lists that are cut into slices, for concurrent threads.
 ghost use Rattle.std.specs.Prelude.{◌≡◌, ◌≤◌};
 
-/// Where a list of so many is cut, of which so many slices stand in front, out of so many.
+/// Returns the index at which a list of `count` elements is cut, so that `front` of its `slices` slices come before the
+/// cut.
 pub fn cut_at(count: usize, front: usize, slices: usize) -> usize
     requires { 1 ≤ slices }
     ensures { result ≤ count }
