@@ -1,4 +1,5 @@
--- All faults of files: the first is that for which the files are refused, and those of the parameters stand in front.
+-- All faults of files: the first is the fault for which the files are rejected, and faults of the parameters come
+-- first.
 use Rattle.std.proofs.Common.{◌≡◌, ◌∙◌, ℕ, List, [], ◌∷◌, ◌++◌, Bool, true, false, map, filter, length, refl, sym, ap}
 use Rattle.std.proofs.Common.{◌+◌, ◌==◌, suc, arith, true≢false, Option, Some, None, Result, Ok, Err}
 use Rattle.std.proofs.lemmas.List.{append-nil}
@@ -28,19 +29,19 @@ use Rattle.statement_text.specs.Statement.{statement_under}
 use Rattle.statement_text.specs.declared.faults.SpanFault.{SpanFault}
 use Rattle.statement_text.specs.declared.faults.SpanFault.TheVariants as fault
 
--- ---- faults of a stage, and what it says where it has none
+-- ---- faults of a stage, and its result without faults
 
--- there is an answer: there is no fault
+-- if there is a result, there is no fault
 fault_free : {A F : Type 0} (faults : List F) (x y : A) → ok_unless (first_of faults) x ≡ Ok y → faults ≡ []
 fault_free [] x y is = refl
 fault_free (f ∷ fs) x y is = cc
 
--- there is none: the fault is the first
+-- if there is no result, the error is the first fault
 first_is : {A F : Type 0} (faults : List F) (x : A) (e : F) → ok_unless (first_of faults) x ≡ Err e → first_of faults ≡ Some e
 first_is [] x e is = cc
 first_is (f ∷ fs) x e is = cc
 
--- the first of faults under a name
+-- the first of renamed faults is the first fault, renamed
 first_named : {E F : Type 0} (named : E → F) (faults : List E) → first_of (map named faults) ≡ option_map named (first_of faults)
 first_named named [] = refl
 first_named named (f ∷ fs) = refl
@@ -51,19 +52,19 @@ none_of_params : (params : List ℕ) (records : List Record) → params_of param
 unfolding params_of
 none_of_params params records is = fault_free (param_faults params) _ records is
 
--- a file that is read has the faults of its records alone
+-- a file that can be read has only the faults of its records
 pub read_params_faults : (params : List ℕ) (records : List Record) → params_of params ≡ Ok records
     → faults_of_params params ≡ broken_rules (Some records)
 unfolding faults_of_params
 read_params_faults params records is = rw (none_of_params params records is, is) refl
 
--- a file that is not read has the faults of reading it alone
+-- a file that cannot be read has only the faults of reading it
 pub unread_params_faults : (params : List ℕ) (e : ParamFault) → params_of params ≡ Err e
     → faults_of_params params ≡ unread_params params
 unfolding faults_of_params
 unread_params_faults params e is = rw (is) (append-nil (unread_params params))
 
--- a file that is read is accepted where its records keep the rules
+-- a file that can be read is accepted if its records keep the rules
 pub read_params_tables : (params : List ℕ) (records : List Record) → params_of params ≡ Ok records
     → result_ok (accepted_of params) ≡ result_ok (checked records)
 unfolding accepted_of
@@ -72,7 +73,7 @@ read_params_tables params records is = rw (is) (by_check (checked records)) wher
   by_check (Ok tables) = refl
   by_check (Err e) = refl
 
--- a file that is not read is not accepted
+-- a file that cannot be read is not accepted
 pub unread_params_tables : (params : List ℕ) (e : ParamFault) → params_of params ≡ Err e → result_ok (accepted_of params) ≡ None
 unfolding accepted_of
 unread_params_tables params e is = rw (is) refl
@@ -97,13 +98,13 @@ none_of_positions : (positions : List ℕ) (records : List PositionRecord) → p
 unfolding positions_of
 none_of_positions positions records is = fault_free (position_faults positions) _ records is
 
--- a file that is read has the faults of binding its records alone
+-- a file that can be read has only the faults of binding its records
 pub read_positions_faults : (tables : Option AcceptedTables) (positions : List ℕ) (records : List PositionRecord)
     → positions_of positions ≡ Ok records
     → unread_positions positions ++ unbound_positions tables (result_ok (positions_of positions)) ≡ unbound_positions tables (Some records)
 read_positions_faults tables positions records is = rw (none_of_positions positions records is, is) refl
 
--- a file that is not read has the faults of reading it alone
+-- a file that cannot be read has only the faults of reading it
 pub unread_positions_faults : (tables : Option AcceptedTables) (positions : List ℕ) (e : PositionFault)
     → positions_of positions ≡ Err e
     → unread_positions positions ++ unbound_positions tables (result_ok (positions_of positions)) ≡ unread_positions positions
@@ -126,7 +127,7 @@ unfolding params_of
 first_unread params e is =
     first_named fault.Params (param_faults params) ∙ ap (option_map fault.Params) (first_is (param_faults params) _ e is)
 
--- the first fault of a parameter file is that for which it is refused
+-- the first fault of a parameter file is the fault for which it is rejected
 pub first_of_params : (params : List ℕ) → first_of (faults_of_params params) ≡ result_err (accepted_of params)
 unfolding accepted_of
 first_of_params params = by_read (params_of params) refl where
@@ -154,7 +155,7 @@ first_unread_position positions e is =
     first_named fault.Positions (position_faults positions)
     ∙ ap (option_map fault.Positions) (first_is (position_faults positions) _ e is)
 
--- the first fault of a position file under accepted tables is that for which it is refused
+-- the first fault of a position file under accepted tables is the fault for which it is rejected
 first_of_positions : (params positions : List ℕ) (tables : AcceptedTables) → accepted_of params ≡ Ok tables
     → first_of (faults_of_positions params positions) ≡ result_err (statement_under tables positions)
 unfolding faults_of_positions statement_under
@@ -165,7 +166,7 @@ first_of_positions params positions tables accepted = rw (accepted) (by_read (po
   by_read (Ok records) is = ap first_of (read_positions_faults (Some tables) positions records is) ∙ first_unbound tables records
   by_read (Err e) is = ap first_of (unread_positions_faults (Some tables) positions e is) ∙ first_unread_position positions e is
 
--- the first fault of two files is that for which they are refused
+-- the first fault of two files is the fault for which they are rejected
 pub first_of_files : (params positions : List ℕ)
     → first_of (faults_of params (Some positions)) ≡ result_err (statement_of params positions)
 unfolding faults_of statement_of
@@ -183,7 +184,7 @@ pub first_of_one_file : (params : List ℕ) → first_of (faults_of params None)
 unfolding faults_of
 first_of_one_file params = first_of_params params
 
--- there is no fault exactly where there is an answer
+-- there is no fault if and only if there is an answer
 pub none_exactly : {A : Type 0} (faults : List SpanFault) (answer : Result A SpanFault) → first_of faults ≡ result_err answer
     → (faults ≡ []) ↔ (is_ok answer ≡ true)
 none_exactly [] (Ok x) h = (λ e. refl, λ e. refl)
@@ -191,9 +192,9 @@ none_exactly [] (Err x) h = cc
 none_exactly (f ∷ fs) (Ok x) h = cc
 none_exactly (f ∷ fs) (Err x) h = (λ e. cc, λ e. cc)
 
--- ---- which file is told
+-- ---- the file that a fault belongs to
 
--- a test says the same of each
+-- a test has the same result for each element
 abbrev EachIs : {X : Type 0} → (X → Bool) → Bool → List X → Type 0
 EachIs p b [] = ⊤
 EachIs p b (x ∷ xs) = (p x ≡ b) × EachIs p b xs
@@ -207,7 +208,7 @@ each_named : {E F : Type 0} (p : F → Bool) (b : Bool) (named : E → F) → ((
 each_named p b named says [] = tt
 each_named p b named says (e ∷ es) = (says e, each_named p b named says es)
 
--- a test says the same of each fault of the parameters
+-- a test has the same result for each fault of the parameters
 each_of_params : (p : SpanFault → Bool) (b : Bool) → ((e : ParamFault) → p (fault.Params e) ≡ b)
     → ((e : CheckFault) → p (fault.Check e) ≡ b) → (params : List ℕ) → EachIs p b (faults_of_params params)
 unfolding faults_of_params
@@ -218,19 +219,19 @@ each_of_params p b unread broken params =
       of_rules None = tt
       of_rules (Some records) = each_named p b fault.Check broken (check_faults records)
 
--- a test says the same of each fault of binding
+-- a test has the same result for each fault of binding
 each_unbound : (p : SpanFault → Bool) (b : Bool) → ((e : BindFault) → p (fault.Bind e) ≡ b)
     → (tables : Option AcceptedTables) (records : Option (List PositionRecord)) → EachIs p b (unbound_positions tables records)
 each_unbound p b says None records = tt
 each_unbound p b says (Some tables) None = tt
 each_unbound p b says (Some tables) (Some records) = each_named p b fault.Bind says (bind_faults tables.contracts records)
 
--- a list that begins with such elements, or is empty, has none in front of them
+-- no element comes before the first one that passes the test, if all pass it
 begins : {X : Type 0} (p : X → Bool) (ys : List X) → EachIs p true ys → before_first p ys ≡ []
 begins p [] h = refl
 begins p (y ∷ ys) h = rw h.0 refl
 
--- elements of which none is such stand in front of the first
+-- a prefix of elements that fail the test comes before the first one that passes it
 front_alone : {X : Type 0} (p : X → Bool) (xs ys : List X) → EachIs p false xs → EachIs p true ys
     → before_first p (xs ++ ys) ≡ xs
 front_alone p [] ys h k = begins p ys k
@@ -239,7 +240,7 @@ front_alone {X = X} p (x ∷ xs) ys h k =
     let next : 1 + n ≡ suc n = omega arith in
     rw (h.0, next) (ap (λ (zs : List X). x ∷ zs) (front_alone p xs ys h.1 k))
 
--- the faults of the parameters are those in front of the first of the positions
+-- the faults of the parameters are all faults before the first fault of the positions
 pub params_in_front : (params positions : List ℕ)
     → before_first is_of_positions (faults_of params (Some positions)) ≡ faults_of params None
 unfolding faults_of faults_of_positions
@@ -262,7 +263,7 @@ kept_none : {X : Type 0} (p : X → Bool) (xs : List X) → EachIs p false xs �
 kept_none p [] h = refl
 kept_none p (x ∷ xs) h = rw h.0 (kept_none p xs h.1)
 
--- whatever the parameters are, they are those of the position file
+-- the faults of reading the positions depend on the position file only
 pub reading_stands : (params positions : List ℕ)
     → filter is_of_reading_positions (faults_of params (Some positions)) ≡ unread_positions positions
 unfolding faults_of faults_of_positions

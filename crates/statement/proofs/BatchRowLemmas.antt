@@ -1,4 +1,4 @@
--- The rows of a batch: no account has two of them, and their text is the statement.
+-- The rows of a batch have distinct accounts, and their text is the statement.
 use Rattle.std.proofs.Common.{◌≡◌, ◌∙◌, ℕ, zero, suc, ◌<◌, Bool, true, false, cond, List, [], ◌∷◌, map, take, length, Option}
 use Rattle.std.proofs.Common.{Some, None, get_or, bytes_eq, refl, sym, ap, subst, arith, ◌++◌, flat_map}
 use Rattle.std.specs.List.{IsDistinct}
@@ -19,7 +19,7 @@ accounts_of_rows : (set : SetView) (portfolios : List AccountHoldings)
 accounts_of_rows set [] = refl
 accounts_of_rows set (p ∷ portfolios) = ap (λ others. p.account ∷ others) (accounts_of_rows set portfolios)
 
--- no account has two of the rows of portfolios
+-- the rows of portfolios have distinct accounts
 pub rows_once : (set : SetView) (portfolios : List AccountHoldings) (rows : List RowView) → rows ≡ rows_of_accounts set portfolios
     → AreOnce portfolios → HasNoAccountTwice rows
 rows_once set portfolios rows is once =
@@ -37,7 +37,7 @@ module _ {R : Type 0} (row_of : R → RowView) where
   not_first true row found other none = cc
   not_first false row found other none = none
 
-  -- none of the rows before one has its account
+  -- no row before a row has the same account
   pub none_before : (xs : List R) (i : ℕ) (d : R) → HasNoAccountTwice (map row_of xs) → i < length xs
       → row_for (map row_of (take i xs)) (account_of_row (row_of (get_or xs i d))) ≡ None
   unfolding IsNew
@@ -51,7 +51,7 @@ module _ {R : Type 0} (row_of : R → RowView) where
       (none_before xs i d (IsDistinct-tail bytes_eq (account_of_row (row_of x)) (map account_of_row (map row_of xs)) once)
       (omega (arith, lt)))
 
--- the text of their rows is the statement
+-- the text of the rows is the statement
 pub text_of_batch : (set : SetView) (portfolios : List AccountHoldings)
     → flat_map (λ r. row_text r.set.tables r.portfolio) (rows_of_accounts set portfolios) ≡ statement_text set.tables portfolios
 unfolding statement_text

@@ -1,4 +1,4 @@
--- What a roll gives, from what its halves give.
+-- The result of a roll, from the results of its two halves.
 use Rattle.std.proofs.Common.{◌≡◌, ◌∙◌, ◌⊎◌, ◌<◌, ℕ, List, [], ◌∷◌, Bool, true, false, ◌++◌}
 use Rattle.std.proofs.Common.{Ok, Err, Result, refl, ap, subst, inl, inr, arith}
 use Rattle.std.specs.Prelude.{IfErr, IfOk, if◌then◌else◌, ◌==◌, ◌&&◌, ◌||◌, nat_lt}
@@ -24,9 +24,9 @@ use Rattle.statement_text.specs.declared.faults.SpanFault.TheVariants as fault
 use Rattle.statement_text.proofs.FaultLemmas.{accepted_of_files, bound_of_files, each_of_files, is_of_files, portfolios_of_files}
 use Rattle.statement_text.proofs.FaultLemmas.{statement_of_files}
 
--- ---- what refuses
+-- ---- errors
 
--- what refuses an answer refuses each other that has its faults, where as much may be kept and published
+-- an error of one answer is an error of another answer that has the same faults, and that may also keep and publish
 refused_too : {A B : Type 0} (answer : Result A SpanFault) (other : Result B SpanFault)
     (may_keep may_publish other_keeps other_publishes : Bool) (e : SpanFault)
     → ((x : SpanFault) → answer ≡ Err x → other ≡ Err x)
@@ -47,14 +47,14 @@ refused_too answer other k p ok op (fault.NextCheck f) faults keeps publishes h 
 refused_too answer other k p ok op (fault.NextBind f) faults keeps publishes h = (h.0, faults _ h.1)
 refused_too answer other k p ok op (fault.UnknownAccount account) faults keeps publishes h = (h.0, faults _ h.1)
 
--- a fault of two files refuses the answer that has it
+-- a fault of two files is an error of the answer that has it
 refused_by_own : {A : Type 0} (answer : Result A SpanFault) (may_keep may_publish : Bool) (e : SpanFault)
     → is_of_files e ≡ true → is_memory e ≡ false → answer ≡ Err e → Refuses answer may_keep may_publish e
 refused_by_own answer k p e files =
     each_of_files (λ x. is_memory x ≡ false → answer ≡ Err x → Refuses answer k p x)
     (λ f named is. (named, is)) (λ f named is. (named, is)) (λ f named is. (named, is)) (λ f named is. (named, is)) e files
 
--- a fault of two files, under the name that it has in the next set, refuses the answer that has it
+-- a fault of two files, under its name for the next parameter set, is an error of the answer that has it
 refused_by_next : {A : Type 0} (answer : Result A SpanFault) (may_keep may_publish : Bool) (e : SpanFault)
     → is_of_files e ≡ true → is_memory e ≡ false → answer ≡ Err (of_next_set e)
     → Refuses answer may_keep may_publish (of_next_set e)
@@ -89,7 +89,7 @@ second_read next positions records f read = by_tables (accepted_of next) where
   by_tables (Ok tables) = rw (under_read tables positions records read) (by_text (statement_bound tables records))
   by_tables (Err e) = refl
 
--- a roll whose first statement stands is that, and the second behind it
+-- the result of a roll is the first statement, if there is one, followed by the second
 pub roll_is : (workers : ℕ) (params next positions first : List ℕ) (records : List PositionRecord)
     → margin_of workers params positions ≡ Ok first → positions_of positions ≡ Ok records
     → roll_of workers params next positions ≡ and_then same (second_of next records) (λ second. Ok (first ++ second))
@@ -97,7 +97,7 @@ unfolding roll_of
 roll_is workers params next positions first records stands read =
     rw (stands) (second_read next positions records (λ second. first ++ second) read)
 
--- a roll is refused for what refuses its second half
+-- a roll fails with the error of its second half
 pub refused_second : (workers : ℕ) (params next positions first : List ℕ) (records : List PositionRecord) (e : SpanFault)
     → margin_of workers params positions ≡ Ok first → positions_of positions ≡ Ok records
     → RefusesSecond next records e → RefusesRoll workers params next positions e
@@ -108,7 +108,7 @@ refused_second workers params next positions first records e stands read =
     ∙ ap (λ r. and_then same r (λ second. Ok (first ++ second))) h)
     (λ may. rw (stands) refl) (λ may. rw (stands) may)
 
--- a roll is refused for what refuses its first statement
+-- a roll fails with the error of its first statement
 pub refused_first : (workers : ℕ) (params next positions : List ℕ) (e : SpanFault)
     → margin_of workers params positions ≡ statement_of params positions
     → (e ≡ fault.Memory) ⊎ ((is_memory e ≡ false) × (statement_of params positions ≡ Err e))
@@ -119,7 +119,7 @@ refused_first workers params next positions e same_text (inr named) =
     refused_by_own (roll_of workers params next positions) _ _ e (statement_of_files params positions e named.1) named.0
     (rw (same_text, named.1) refl)
 
--- the second half is never refused for the number of workers
+-- the second half never fails because of the number of workers
 pub second_never_workers : (next : List ℕ) (records : List PositionRecord) → RefusesSecond next records fault.Workers → ⊥
 unfolding second_of
 second_never_workers next records h = by_tables (accepted_of next) (λ e is. accepted_of_files next e is) h.1 where
@@ -139,7 +139,7 @@ second_never_workers next records h = by_tables (accepted_of next) (λ e is. acc
 
 -- ---- the second half
 
--- the next set is refused, under the name that its fault has there
+-- the next parameter set is rejected, with the fault under its name there
 pub refused_set : (next : List ℕ) (e : SpanFault)
     → (e ≡ fault.Memory) ⊎ ((is_memory e ≡ false) × (accepted_of next ≡ Err e)) → RefusesNext next (of_next_set e)
 refused_set next e (inl memory) = rw (memory) tt
@@ -147,7 +147,7 @@ refused_set next e (inr named) =
     refused_by_next (and_then of_next_set (accepted_of next) (λ tables. Ok tables)) false _ e
     (accepted_of_files next e named.1) named.0 (rw (named.1) refl)
 
--- the positions are refused under the next set
+-- the positions are rejected under the next parameter set
 pub refused_bound : (tables : AcceptedTables) (records : List PositionRecord) (e : SpanFault)
     → (e ≡ fault.Memory) ⊎ ((is_memory e ≡ false) × (portfolios_under tables records ≡ Err e))
     → RefusesUnder tables records (of_next_set e)
@@ -157,7 +157,7 @@ refused_bound tables records e (inr named) =
     refused_by_next (and_then of_next_set (statement_bound tables records) (λ text. Ok text)) true false e
     (portfolios_of_files tables records e named.1) named.0 (rw (named.1) refl)
 
--- what refuses the next set refuses the second statement
+-- an error of the next parameter set is an error of the second statement
 pub next_refuses : (next : List ℕ) (records : List PositionRecord) (e : SpanFault) → RefusesNext next e
     → RefusesSecond next records e
 unfolding second_of
@@ -169,7 +169,7 @@ next_refuses next records e =
       go_on (Ok tables) x h = cc
       go_on (Err f) x h = cc
 
--- what refuses the statement under the next set's tables refuses the second statement
+-- an error of the statement under the next tables is an error of the second statement
 pub under_refuses : (next : List ℕ) (records : List PositionRecord) (tables : AcceptedTables) (e : SpanFault)
     → accepted_of next ≡ Ok tables → RefusesUnder tables records e → RefusesSecond next records e
 unfolding second_of
@@ -177,7 +177,7 @@ under_refuses next records tables e accepted =
     refused_too (and_then of_next_set (statement_bound tables records) (λ text. Ok text)) (second_of next records) true false true
     (is_ok (accepted_of next)) e (λ x h. rw (accepted) h) (λ may. may) (λ may. rw (accepted) refl)
 
--- the statement under the next set's tables is the second
+-- the statement under the next tables is the second statement
 pub under_stands : (next : List ℕ) (records : List PositionRecord) (tables : AcceptedTables) (first text : List ℕ)
     → accepted_of next ≡ Ok tables → RollsUnder tables records first text → Rolls next records first text
 unfolding second_of
@@ -188,32 +188,32 @@ under_stands next records tables first text accepted stands =
       by_text (Ok second) = refl
       by_text (Err e) = refl
 
--- the statement under the next set's tables is that of the portfolios
+-- the statement under the next tables is the statement of the portfolios
 pub under_portfolios : (tables : AcceptedTables) (records : List PositionRecord) (portfolios : List AccountHoldings)
     (first : List ℕ) → portfolios_under tables records ≡ Ok portfolios
     → RollsUnder tables records first (first ++ statement_text tables portfolios)
 unfolding statement_bound
 under_portfolios tables records portfolios first is = rw (is) refl
 
--- a book refuses rows where it has no number left, or because memory ran out
+-- a book rejects rows if it has no number left, or if memory ran out
 pub refused_rows : {A X Y : Type 0} (answer : Result A SpanFault) (may_publish : Bool) (e : BookFault)
     → ((e ≡ book.NoMoreBatches) × X) ⊎ ((e ≡ book.OutOfMemory) × Y) → Refuses answer true may_publish (of_book e)
 refused_rows answer may_publish e (inl full) = rw (full.0) (refl, refl)
 refused_rows answer may_publish e (inr memory) = rw (memory.0) tt
 
--- what a book refuses rows for, as a fault of the whole
+-- the error of a book that rejects rows, as a fault of the whole program
 pub unkept_rows : {X Y : Type 0} (e : BookFault) → ((e ≡ book.NoMoreBatches) × X) ⊎ ((e ≡ book.OutOfMemory) × Y)
     → (of_book e ≡ fault.Memory) ⊎ (of_book e ≡ fault.Book book.NoMoreBatches)
 unkept_rows e (inl full) = rw (full.0) (inr refl)
 unkept_rows e (inr memory) = rw (memory.0) (inl refl)
 
--- what keeps the rows of the first statement from the book refuses the second
+-- an error in putting the rows of the first statement in the book is an error of the second half
 pub kept_refuses : {A : Type 0} (answer : Result A SpanFault) (may_publish : Bool) (e : SpanFault)
     → (e ≡ fault.Memory) ⊎ (e ≡ fault.Book book.NoMoreBatches) → Refuses answer true may_publish e
 kept_refuses answer may_publish e (inl memory) = rw (memory) tt
 kept_refuses answer may_publish e (inr full) = rw (full) (refl, refl)
 
--- the last of two publications is the next set
+-- the last of two publications is the next parameter set
 pub next_is_last : (next : List ℕ) (first set : SetView) (told : List SetView) → IsPublished next (first ∷ []) told
     → IsLast told set → accepted_of next ≡ Ok set.tables
 next_is_last next first set told published last =
@@ -221,9 +221,9 @@ next_is_last next first set told published last =
     let same_set : published.set ≡ set = cc in
     rw (← same_set) published.accepted
 
--- ---- the whole
+-- ---- the whole roll
 
--- a number of workers that is refused
+-- a number of workers that is rejected
 pub workers_refused : (workers : ℕ) (params next positions : List ℕ) → (workers ≡ 0) ⊎ (16 < workers)
     → roll_of workers params next positions ≡ Err fault.Workers
 unfolding roll_of margin_of
@@ -238,7 +238,7 @@ workers_refused workers params next positions (inr many) =
       by_tests false true h = refl
       by_tests false false h = cc
 
--- a number of workers that is not refused
+-- a number of workers that is accepted
 pub workers_allowed : (workers : ℕ) (params positions : List ℕ) → 0 < workers → workers < 17
     → margin_of workers params positions ≡ statement_of params positions
 unfolding margin_of
@@ -252,7 +252,7 @@ workers_allowed workers params positions some few =
       by_tests false true h k = cc
       by_tests false false h k = refl
 
--- what a roll gives, where its first statement stands
+-- the result of a roll, if it has a first statement
 pub roll_gives : {Y : Type 0} (said : Y → List ℕ) (workers : ℕ) (params next positions first : List ℕ)
     (records : List PositionRecord) (r : Result Y SpanFault)
     → margin_of workers params positions ≡ Ok first → positions_of positions ≡ Ok records

@@ -1,4 +1,4 @@
--- All faults of a parameter file, and of a position file beside it.
+-- All faults of a parameter file, and of a position file that is checked with it.
 use Rattle.std.specs.Prelude.{ℕ, Bool, true, false, List, [], ◌∷◌, ◌++◌, flat_map, map, Option, Some, None}
 use Rattle.std.specs.Result.{result_ok}
 use Rattle.span_csv.specs.ParamFaults.{param_faults, params_of}
@@ -20,7 +20,7 @@ use Rattle.statement_text.specs.declared.statuses.TheConstants.{DONE}
 abbrev pub unread_params : List ℕ → List SpanFault
 unread_params params = map fault.Params (param_faults params)
 
--- all rules that records break; where the file is not read, and has no records, there is none
+-- all rules that records break; none if the file cannot be read and has no records
 abbrev pub broken_rules : Option (List Record) → List SpanFault
 broken_rules (Some records) = map fault.Check (check_faults records)
 broken_rules None = []
@@ -35,19 +35,19 @@ faults_of_params params = unread_params params ++ broken_rules (result_ok (param
 abbrev pub unread_positions : List ℕ → List SpanFault
 unread_positions positions = map fault.Positions (position_faults positions)
 
--- all faults of binding records to tables; where the parameters are not accepted, or the positions not read, there is none
+-- all faults of binding records to tables; none if the parameters are not accepted or the positions cannot be read
 abbrev pub unbound_positions : Option AcceptedTables → Option (List PositionRecord) → List SpanFault
 unbound_positions (Some tables) (Some records) = map fault.Bind (bind_faults tables.contracts records)
 unbound_positions tables records = []
 
--- all faults of a position file beside a parameter file: of reading it, or else, where the parameters are accepted, of binding it
+-- all faults of a position file: of reading it or, if it can be read and the parameters are accepted, of binding it
 unfoldable pub faults_of_positions : List ℕ → List ℕ → List SpanFault
 faults_of_positions params positions =
     unread_positions positions ++ unbound_positions (result_ok (accepted_of params)) (result_ok (positions_of positions))
 
 -- ---- both
 
--- all faults of a parameter file, and behind them those of a position file, if there is one
+-- all faults of a parameter file followed by all faults of a position file, if there is one
 unfoldable pub faults_of : List ℕ → Option (List ℕ) → List SpanFault
 faults_of params None = faults_of_params params
 faults_of params (Some positions) = faults_of_params params ++ faults_of_positions params positions
@@ -56,20 +56,20 @@ faults_of params (Some positions) = faults_of_params params ++ faults_of_positio
 unfoldable pub faults_text : List SpanFault → List ℕ
 faults_text faults = flat_map fault_line faults
 
--- the exit status of faults: that of the first, if there is one
+-- the exit status of a list of faults: the status of the first, if there is one
 abbrev pub faults_status : List SpanFault → ℕ
 faults_status [] = DONE
 faults_status (first ∷ others) = fault_status first
 
--- ---- which file is told
+-- ---- the file that a fault belongs to
 
--- the fault is of the positions
+-- the fault is a fault of the positions
 abbrev pub is_of_positions : SpanFault → Bool
 is_of_positions (fault.Positions e) = true
 is_of_positions (fault.Bind e) = true
 is_of_positions e = false
 
--- the fault is of reading the positions
+-- the fault is a fault of reading the positions
 abbrev pub is_of_reading_positions : SpanFault → Bool
 is_of_reading_positions (fault.Positions e) = true
 is_of_reading_positions e = false

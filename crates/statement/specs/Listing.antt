@@ -5,6 +5,6 @@ use Rattle.plan_compiler.specs.Places.{plan_of}
 use Rattle.statement_text.specs.Statement.{accepted_of, and_then, same}
 use Rattle.statement_text.specs.declared.faults.SpanFault.{SpanFault}
 
--- the text of the plan of a parameter file, or the first fault: in reading it, in checking it
+-- the text of the plan of a parameter file, or its first fault in reading, then in checking
 unfoldable pub listing_of : List ℕ → Result (List ℕ) SpanFault
 listing_of params = and_then same (accepted_of params) (λ tables. Ok (plan_text (plan_of tables)))

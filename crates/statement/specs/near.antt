@@ -1,4 +1,5 @@
--- What no promise's words stand on: forms near to the code, what types keep.
+-- Implementation-level specifications, on which no guarantee depends: definitions to unfold, halves of a roll, and type
+-- invariants.
 pub mod OnLiterals
 pub mod Seconds
 pub mod InBook

@@ -1,4 +1,4 @@
-//! All faults of a parameter file, and of a position file beside it, in one list.
+//! All faults of a parameter file, and of a position file that is checked with it, in one list.
 ghost use Rattle.param_check.specs.CheckFaults.{checked};
 ghost use Rattle.span_csv.specs.ParamFaults as param;
 ghost use Rattle.span_csv.specs.PositionFaults as position;
@@ -21,14 +21,14 @@ use statement_text::faults::{SpanFault, status};
 use statement_text::statuses::DONE;
 use std::alloc::{AllocError, Global};
 
-// Whether a parameter file is not read because memory ran out.
+// Whether a parameter file could not be read because memory ran out.
 fn params_want_memory(fault: &ParamFault) -> bool
     ensures { result ≡ param.is_memory fault.now }
 {
     matches!(fault, ParamFault::OutOfMemory)
 }
 
-// Whether a position file is not read because memory ran out.
+// Whether a position file could not be read because memory ran out.
 fn positions_want_memory(fault: &PositionFault) -> bool
     ensures { result ≡ position.is_memory fault.now }
 {
@@ -71,14 +71,14 @@ fn unbound_positions(
     faults.into_iter().map(SpanFault::Bind).collect(alloc)
 }
 
-// What a parameter file says, if it is accepted, and all its faults.
+// The tables of a parameter file, if it is accepted, and all its faults.
 #[derive(Drop)]
 struct JudgedParams {
     tables: Option<Tables>,
     faults: Vec<SpanFault>,
 }
 
-// What the records of a parameter file say, if they keep the rules, and all rules that they break.
+// The tables of the records of a parameter file, if they keep the rules, and all rules that they break.
 fn judge_records(alloc: Global, records: RawTables) -> Result<JudgedParams, AllocError>
     ensures tables { IfOk result (λ judged. judged.tables ≡ result_ok (checked records)) }
     ensures faults { IfOk result (λ judged. judged.faults.items ≡ broken_rules (Some records)) }
@@ -99,7 +99,7 @@ fn judge_records(alloc: Global, records: RawTables) -> Result<JudgedParams, Allo
     }
 }
 
-// What a parameter file says, if it is accepted, and all its faults. A file that is accepted is read once.
+// The tables of a parameter file, if it is accepted, and all its faults. A file that is accepted is read once.
 #[tactic(auto, unfolding(crate::specs::AllFaults::faults_of_params, statement_text::specs::Statement::accepted_of))]
 fn judge_params(alloc: Global, params: &[u8]) -> Result<JudgedParams, AllocError>
     ensures tables { IfOk result (λ judged. judged.tables ≡ result_ok (accepted_of params.now)) }
@@ -120,7 +120,7 @@ fn judge_params(alloc: Global, params: &[u8]) -> Result<JudgedParams, AllocError
     }
 }
 
-// All faults of a position file beside these tables, or beside parameters that are not accepted.
+// All faults of a position file with these tables, or without tables if the parameters are not accepted.
 fn judge_positions(
     alloc: Global,
     tables: Option<&Tables>,
@@ -143,8 +143,8 @@ fn judge_positions(
     }
 }
 
-/// All faults of a parameter file, and behind them those of a position file, if there is one; none, where the files are accepted
-/// (docs/FORMATS.md, "All faults").
+/// Returns all faults of a parameter file followed by all faults of a position file, if there is one. The list is empty
+/// if the files are accepted (docs/FORMATS.md, "All faults").
 #[tactic(auto, unfolding(crate::specs::AllFaults::faults_of, crate::specs::AllFaults::faults_of_positions))]
 pub fn faults(
     alloc: Global,
@@ -162,7 +162,7 @@ pub fn faults(
     Ok(faults)
 }
 
-/// The lines of faults, in their order.
+/// Returns the lines of faults, in their order.
 #[tactic(auto, unfolding(crate::specs::AllFaults::faults_text))]
 pub fn faults_text(alloc: Global, faults: &[SpanFault]) -> Result<Vec<u8>, AllocError>
     ensures { IfOk result (λ text. text.items ≡ faults_text faults.now) }
@@ -177,7 +177,7 @@ pub fn faults_text(alloc: Global, faults: &[SpanFault]) -> Result<Vec<u8>, Alloc
     Ok(text)
 }
 
-/// The exit status of faults: that of the first, or that of work that is done where there is none.
+/// Returns the exit status of a list of faults: the status of the first, or `DONE` if there is none.
 pub fn faults_status(faults: &[SpanFault]) -> u8
     ensures { result ≡ faults_status faults.now }
 {

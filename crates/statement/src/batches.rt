@@ -15,10 +15,10 @@ use std::thread::Threads;
 use step_scheduler::rows::Row;
 pub use worker_teams::rows::{rows_alone, rows_together};
 
-// Rows are written in no more slices than they are so many.
+// The minimum number of rows for each slice.
 const SLICE_ROWS: usize = 128;
 
-// The lines of rows, of so many slices of them, each in a thread of its own where one can be started.
+// The lines of rows. They are written in this many slices, each in its own thread if one can be started.
 #[cycle(write)]
 fn write_in_slices<R: Threads + Sync>(
     rt: &R,
@@ -50,7 +50,7 @@ fn write_in_slices<R: Threads + Sync>(
     Ok(text)
 }
 
-/// The statement of the rows of a batch, which several workers write in slices where there are many.
+/// Returns the statement of the rows of a batch. If there are many rows, several workers write it in slices.
 pub(crate) fn text_together<R: Threads + Sync>(
     rt: &R,
     alloc: Global,
@@ -63,7 +63,7 @@ pub(crate) fn text_together<R: Threads + Sync>(
     write_in_slices(rt, alloc, rows, workers.min(rows.len() / SLICE_ROWS))
 }
 
-/// The statement of the rows of a batch.
+/// Returns the statement of the rows of a batch.
 pub(crate) fn text_of(alloc: Global, rows: &[Arc<Row>]) -> Result<Vec<u8>, AllocError>
     ensures { (set : SetView) (portfolios : List AccountHoldings) → map arc_value rows.now ≡ rows_of_accounts set portfolios
         → IfOk result (λ text. text.items ≡ statement_text set.tables portfolios) }

@@ -1,4 +1,4 @@
-//! What is said of a parameter file by itself.
+//! The check of a parameter file by itself, which counts its records.
 ghost use Rattle.span_money.specs.LineFields.{line};
 ghost use Rattle.statement_text.specs.Gives.{Gives};
 ghost use Rattle.statement.specs.Counts.{counts_line, counts_of};
@@ -10,8 +10,8 @@ use span_tables::tables::Tables;
 use statement_text::faults::SpanFault;
 use std::alloc::{AllocError, Global};
 
-/// The line of accepted tables: `OK`, the id of the set, and how many commodities, contracts, tiers, intracommodity
-/// spreads, spot months and intercommodity spreads they have (docs/FORMATS.md, Commands).
+/// Returns the line of accepted tables: `OK`, the id of the parameter set, and the numbers of commodities, contracts,
+/// tiers, intracommodity spreads, spot months and intercommodity spreads (docs/FORMATS.md, Commands).
 #[tactic(auto, unfolding(crate::specs::Counts::counts_line))]
 pub fn write_counts(alloc: Global, tables: &Tables) -> Result<Vec<u8>, AllocError>
     ensures { IfOk result (λ text. text.items ≡ line (counts_line tables.now)) }
@@ -31,7 +31,8 @@ pub fn write_counts(alloc: Global, tables: &Tables) -> Result<Vec<u8>, AllocErro
     Ok(out)
 }
 
-/// The counts of a parameter file, or the first fault in reading it and checking it; or out of memory.
+/// Returns the counts of a parameter file, or the first fault in reading it and checking it. Fails with `Memory` if
+/// memory runs out.
 #[tactic(auto, unfolding(crate::specs::Counts::counts_of))]
 pub fn check_plain(alloc: Global, params: &[u8]) -> Result<Vec<u8>, SpanFault>
     ensures { Gives (λ text. text.items) result (counts_of params.now) }

@@ -1,4 +1,4 @@
-//! Rows that a book has. A roll writes its statements from such rows alone.
+//! Rows that are in a book. A roll writes its statements from such rows only.
 ghost use Rattle.plan_compiler.specs.Compiled.{SetView};
 ghost use Rattle.result_book.specs.Books.{HasNoAccountTwice, rows_of};
 ghost use Rattle.result_book.specs.declared.books.BookFault.TheVariants as fault;
@@ -17,7 +17,7 @@ use std::marker::Model;
 use std::sync::Arc;
 use step_scheduler::rows::Row;
 
-/// The rows of a batch, which a book has. Only [`put_in_book`] makes them.
+/// The rows of a batch that are in a book. Only [`put_in_book`] creates them.
 #[derive(Drop)]
 pub(crate) struct RowsInBook {
     rows: Vec<Arc<Row>>,
@@ -34,7 +34,7 @@ impl Model for RowsInBook {
 }
 
 impl RowsInBook {
-    /// The statement of the rows.
+    /// Returns the statement of the rows.
     pub(crate) fn text(&self, alloc: Global) -> Result<Vec<u8>, AllocError>
         ensures { (set : SetView) (portfolios : List AccountHoldings) → self.now ≡ rows_of_accounts set portfolios
             → IfOk result (λ text. text.items ≡ statement_text set.tables portfolios) }
@@ -53,8 +53,8 @@ impl RowsInBook {
 
 /// Opens a batch of a book and puts the rows there, in their order.
 ///
-/// `NoMoreBatches` where the book gave each number to a batch. The book is then as it was. Nothing else but out of memory
-/// refuses: one batch more is then open, and has the rows that were put before.
+/// Fails with `NoMoreBatches` if the book has given out all its numbers, and leaves the book unchanged. The only other
+/// error is out of memory: then one more batch is open, with the rows that were put before.
 pub(crate) fn put_in_book(
     book: &mut ResultBook,
     rows: Vec<Arc<Row>>,

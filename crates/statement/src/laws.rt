@@ -1,4 +1,4 @@
-//! Laws of the definitions, in the formats' own words: each is the contract of a function that does nothing.
+//! Lemmas about the definitions, in the terms of the formats. Each is the contract of a function with an empty body.
 #![tactic(auto, unfolding(crate::specs::near::OnLiterals::on_literals))]
 
 ghost use Rattle.span_csv.specs.PositionFaults.{position_faults};
@@ -19,8 +19,8 @@ pub use statement_text::laws::{
     lines_end_with_the_total, profile_1_has_no_option_values, want_of_memory_is_told_apart,
 };
 
-/// A number of workers that is 0 or over 16 is refused, whatever the files hold; on any other the statement, or the fault, is
-/// that of the two files.
+/// A number of workers that is 0 or over 16 is rejected, whatever the files contain. With any other number the result
+/// is the statement or the fault of the two files.
 #[tactic(auto, unfolding(crate::specs::Margin::margin_of))]
 pub fn workers_change_nothing()
     ensures none { (params positions : List ℕ) → margin_of 0 params positions ≡ Err fault.Workers }
@@ -30,8 +30,8 @@ pub fn workers_change_nothing()
         → margin_of workers params positions ≡ statement_of params positions }
 {}
 
-/// A roll is refused for what refuses the first statement, and else for what refuses the second, under the name that this has
-/// in the next set. Where both stand, the second follows the first.
+/// A roll fails with the fault of the first statement, or else with the fault of the second, under its name for the
+/// next parameter set. If there are both statements, the second follows the first.
 #[tactic(auto, unfolding(crate::specs::Rolls::roll_of))]
 pub fn a_roll_is_two_statements()
     ensures first { (workers : ℕ) (params next positions : List ℕ) (e : SpanFault)
@@ -44,8 +44,8 @@ pub fn a_roll_is_two_statements()
         → roll_of workers params next positions ≡ Ok (first ++ second) }
 {}
 
-/// The list of all faults is empty exactly where the files are accepted, and else its first is the fault that they are refused for; so
-/// it is of a parameter file alone.
+/// The list of all faults is empty if and only if the files are accepted. Otherwise its first element is the fault for
+/// which they are rejected. The same is true of a parameter file alone.
 pub fn faults_are_none_or_begin_with_the_first()
     ensures both { (params positions : List ℕ)
         → first_of (faults_of params (Some positions)) ≡ result_err (statement_of params positions) }
@@ -55,13 +55,14 @@ pub fn faults_are_none_or_begin_with_the_first()
     ensures none_of_params { (params : List ℕ) → (faults_of params None ≡ []) ↔ (is_ok (accepted_of params) ≡ true) }
 {}
 
-/// The faults of a parameter file alone are those of both files up to the first fault of the positions.
+/// The faults of a parameter file alone are the faults of both files before the first fault of the positions.
 pub fn faults_of_parameters_stand_in_front()
     ensures { (params positions : List ℕ)
         → before_first is_of_positions (faults_of params (Some positions)) ≡ faults_of params None }
 {}
 
-/// The faults of reading positions are the same beside every parameter file: all that the file has.
+/// The faults of reading positions are the same with every parameter file: all faults of reading that the position file
+/// has.
 pub fn positions_are_read_beside_every_parameter_file()
     ensures file { (params positions : List ℕ) → filter is_of_reading_positions (faults_of params (Some positions))
         ≡ map fault.Positions (position_faults positions) }

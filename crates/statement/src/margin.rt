@@ -20,8 +20,9 @@ use worker_pool::batch::MAX_WORKERS;
 use worker_pool::gates::Gate;
 use worker_teams::rows::{rows_alone, rows_together};
 
-/// The statement of two files, or the first fault in reading the parameters, checking them, reading the positions and
-/// binding them; or out of memory (docs/METHOD.md has the figures, docs/FORMATS.md the faults).
+/// Returns the statement of two files, or the first fault in reading the parameters, checking them, reading the
+/// positions and binding them (docs/METHOD.md has the figures, docs/FORMATS.md the faults). Fails with `Memory` if
+/// memory runs out.
 pub fn margin_plain(alloc: Global, params: &[u8], positions: &[u8]) -> Result<Vec<u8>, SpanFault>
     ensures { Gives (λ text. text.items) result (statement_of params.now positions.now) }
 {
@@ -35,7 +36,8 @@ pub fn margin_plain(alloc: Global, params: &[u8], positions: &[u8]) -> Result<Ve
     Ok(text)
 }
 
-/// The statement of portfolios under a compiled set, on 1 to 16 workers. If memory runs out for one account, there is no statement.
+/// Returns the statement of portfolios under a compiled parameter set, on 1 to 16 workers. If memory runs out for one
+/// account, there is no statement.
 pub fn margin_of_portfolios<R: Threads + Wait + Clock + Sync, G: Gate>(
     rt: &R,
     alloc: Global,
@@ -51,10 +53,11 @@ pub fn margin_of_portfolios<R: Threads + Wait + Clock + Sync, G: Gate>(
     text_together(rt, alloc, &rows, workers)
 }
 
-/// The statement of two files on so many workers, in whatever order they finish the steps: the very text, or the very
-/// fault, of [`margin_plain`]; or out of memory.
+/// Returns the statement of two files on a number of workers, which may finish the steps in any order. The text or the
+/// fault is the same as with [`margin_plain`], unless memory runs out.
 ///
-/// A number of workers that is 0 or over 16 is refused before anything else. The workers pass the gate before each step.
+/// A number of workers that is 0 or over 16 is rejected before anything else. The workers call the hook `gate` before
+/// each step.
 #[tactic(auto, unfolding(crate::specs::Margin::margin_of))]
 pub fn margin<R: Threads + Wait + Clock + Sync, G: Gate>(
     rt: &R,

@@ -8,8 +8,8 @@ use plan_ir::listing::list;
 use statement_text::faults::SpanFault;
 use std::alloc::Global;
 
-/// The steps of the plan of a parameter file, a line each, or the first fault in reading it and checking it; or want
-/// of memory.
+/// Returns the steps of the plan of a parameter file, one on each line, or the first fault in reading it and checking
+/// it. Fails with `Memory` if memory runs out.
 #[tactic(auto, unfolding(crate::specs::Listing::listing_of))]
 pub fn plan_plain(alloc: Global, params: &[u8]) -> Result<Vec<u8>, SpanFault>
     ensures { Gives (λ text. text.items) result (listing_of params.now) }

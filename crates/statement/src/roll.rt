@@ -1,4 +1,5 @@
-//! Two statements for the same positions: under a set, and under the next, which is made ready beside the first batch.
+//! Two statements for the same positions: under a parameter set, and under the next one, which is prepared concurrently
+//! with the first batch.
 ghost use Rattle.plan_compiler.specs.Compiled.{SetView};
 ghost use Rattle.plan_shelf.specs.Publications.{IsLast};
 ghost use Rattle.result_book.specs.Books.{HasNoAccountTwice};
@@ -38,7 +39,8 @@ use worker_pool::batch::MAX_WORKERS;
 use worker_pool::gates::Gate;
 use worker_teams::rows::rows_together;
 
-// What a roll is lent: a runtime, an allocator, so many workers, the gate that they pass, and the book for the rows.
+// What a roll borrows: a runtime, an allocator, the number of workers, the gate that they call, and the book for the
+// rows.
 #[derive(Drop)]
 struct RollMeans<'a, R, G: Gate> {
     rt: &'a R,
@@ -48,10 +50,10 @@ struct RollMeans<'a, R, G: Gate> {
     book: &'a Mutex<ResultBook>,
 }
 
-// The number of the next set's publication on the shelf of a roll. That of the first set is 1.
+// The number of the next parameter set's publication on the shelf of a roll. The first set has number 1.
 const NEXT_SET: u64 = 2;
 
-// A fault of reading, checking or binding, under the name that it has where it arises under the next set.
+// A fault of reading, checking or binding, under the name that it has if it occurs under the next parameter set.
 fn of_next_set(fault: SpanFault) -> SpanFault
     ensures { result ≡ of_next_set fault }
 {
@@ -63,7 +65,7 @@ fn of_next_set(fault: SpanFault) -> SpanFault
     }
 }
 
-// The compiled set of the next parameters, or their first fault under the name that it has there.
+// The compiled set of the next parameters, or their first fault under its name there.
 fn next_set(alloc: Global, next: &[u8]) -> Result<Arc<CompiledSet>, SpanFault>
     ensures set { IfOk result (λ set. accepted_of next.now ≡ Ok (arc_value set).tables) }
     ensures fault { IfErr result (λ e. RefusesNext next.now e) }
@@ -74,7 +76,7 @@ fn next_set(alloc: Global, next: &[u8]) -> Result<Arc<CompiledSet>, SpanFault>
     }
 }
 
-// Makes the next set ready and publishes it, without waiting for the batch.
+// Prepares the next parameter set and publishes it, without waiting for the batch.
 fn publish_next<S: ShelfName, R: Wait, G: Gate>(
     alloc: Global,
     publisher: &mut Publisher<S, &R>,
@@ -90,8 +92,8 @@ fn publish_next<S: ShelfName, R: Wait, G: Gate>(
     Ok(told)
 }
 
-// The rows of the first batch, computed here, and beside it the next set in a thread. Where no thread is started the two are
-// done one after the other.
+// The rows of the first batch, computed here, and the next parameter set, prepared in a thread at the same time. If no
+// thread can be started, the two are done one after the other.
 fn first_rows_and_next_set<S: ShelfName + Send + Sync, R: Threads + Wait + Clock + Sync, G: Gate>(
     lent: &RollMeans<'_, R, G>,
     publisher: &mut Publisher<S, &R>,
@@ -125,7 +127,7 @@ fn first_rows_and_next_set<S: ShelfName + Send + Sync, R: Threads + Wait + Clock
     (rows, told)
 }
 
-// The set of the second publication, where that is the current one that a reader found.
+// The parameter set of the second publication, if a reader found it as the current one.
 fn second_of(found: Option<(u64, Arc<CompiledSet>)>) -> Result<Arc<CompiledSet>, SpanFault>
     ensures second { IfSome found (λ c. c.0 ≡ 2 → result ≡ Ok c.1) }
     ensures set { IfOk result (λ set. found ≡ Some (2, set)) }
@@ -137,7 +139,7 @@ fn second_of(found: Option<(u64, Arc<CompiledSet>)>) -> Result<Arc<CompiledSet>,
     }
 }
 
-// The set that a reader finds once it has learned of the second publication.
+// The parameter set that a reader finds once it has learned of the second publication.
 fn second_set<S: ShelfName, R: Wait>(
     rt: &R,
     reader: Reader<S>,
@@ -153,7 +155,7 @@ fn second_set<S: ShelfName, R: Wait>(
     second_of(found)
 }
 
-// The portfolios of positions under the next set, or their fault under the name that it has there.
+// The portfolios of positions under the next parameter set, or their fault under its name there.
 fn portfolios_of_next<R: Threads + Sync, G: Gate>(
     lent: &RollMeans<'_, R, G>,
     set: &Arc<CompiledSet>,
@@ -171,7 +173,7 @@ fn portfolios_of_next<R: Threads + Sync, G: Gate>(
     }
 }
 
-// Margins the positions under the next set, puts the rows in the book and appends their statement.
+// Margins the positions under the next parameter set, puts the rows in the book and appends their statement.
 fn second_statement<R: Threads + Wait + Clock + Sync, G: Gate>(
     lent: &RollMeans<'_, R, G>,
     set: &Arc<CompiledSet>,
@@ -195,7 +197,7 @@ fn second_statement<R: Threads + Wait + Clock + Sync, G: Gate>(
     Ok(())
 }
 
-// Publishes a set as the first.
+// Publishes a parameter set as the first one.
 fn publish_first<S: ShelfName, R: Wait + Drop>(
     publisher: &mut Publisher<S, R>,
     set: &Arc<CompiledSet>,
@@ -208,7 +210,7 @@ fn publish_first<S: ShelfName, R: Wait + Drop>(
     Ok(())
 }
 
-// A shelf with a reader, on which a set is the first publication.
+// A shelf with a reader, whose first publication is this parameter set.
 fn shelf_with<S: ShelfName, R: Wait + Drop>(
     rt: R,
     alloc: Global,
@@ -225,7 +227,7 @@ fn shelf_with<S: ShelfName, R: Wait + Drop>(
     Ok((publisher, reader))
 }
 
-// Puts the rows of the first batch in the book, and gives their statement.
+// Puts the rows of the first batch in the book, and returns their statement.
 fn first_statement<R: Wait>(
     rt: &R,
     alloc: Global,
@@ -242,7 +244,7 @@ fn first_statement<R: Wait>(
     Ok(text)
 }
 
-// The first statement, whose rows are put in the book, and the next set, which was published meanwhile.
+// The first statement, whose rows are in the book, and the next parameter set, which was published in the meantime.
 fn first_statement_and_next_set<
     S: ShelfName + Send + Sync,
     R: Threads + Wait + Clock + Sync,
@@ -265,7 +267,7 @@ fn first_statement_and_next_set<
     Ok((text, told?))
 }
 
-// The roll on a shelf whose only publication is the set of the first statement.
+// The roll on a shelf whose only publication is the parameter set of the first statement.
 fn roll_on_shelf<S: ShelfName + Send + Sync, R: Threads + Wait + Clock + Sync, G: Gate>(
     lent: &RollMeans<'_, R, G>,
     publisher: &mut Publisher<S, &R>,
@@ -290,7 +292,7 @@ fn roll_on_shelf<S: ShelfName + Send + Sync, R: Threads + Wait + Clock + Sync, G
     Ok(text)
 }
 
-// The roll on a shelf of its own, which the type `S` names. No type in the signature of `roll` does.
+// The roll on its own shelf, which the type `S` names. The signature of `roll` does not mention this type.
 fn roll_named<S: ShelfName + Send + Sync, R: Threads + Wait + Clock + Sync, G: Gate>(
     lent: &RollMeans<'_, R, G>,
     history: History,
@@ -307,16 +309,18 @@ fn roll_named<S: ShelfName + Send + Sync, R: Threads + Wait + Clock + Sync, G: G
     roll_on_shelf(lent, &mut publisher, reader, today, next)
 }
 
-/// The statement of the positions under a set, and after it that under the next; or the first fault in the number of
-/// workers, in the parameters, in the positions under them, in the next parameters, in the positions under these; or want
-/// of memory (docs/FORMATS.md, "Faults").
+/// Returns the statement of the positions under a parameter set, followed by their statement under the next one.
+/// Otherwise returns the first fault, in this order: the number of workers, the parameters, the positions, the next
+/// parameters, the positions under these. Fails with `Memory` if memory runs out (docs/FORMATS.md, "Faults").
 ///
-/// The next parameters are read, checked, compiled and published on a shelf by a thread of its own, which begins with
-/// `beside` of the gate, while the first batch runs; where no thread is started, after it. The second batch runs under the
-/// set that the shelf then has. The rows of each batch are kept in the book, as the batch of a number that is opened then,
-/// in the order of the accounts; nothing is opened where an account has no row. A book that has no number left refuses after
-/// the faults of the positions, and before those of the next parameters; it refuses for nothing else but out of memory. Rows
-/// that were put stay in the book.
+/// A separate thread first calls the gate's hook for this thread, then reads, checks and compiles the next parameters and
+/// publishes them on a shelf, while the first batch runs. If no thread can be started, this is done after the first batch. The
+/// second batch runs under the set that the shelf then has.
+///
+/// The rows of each batch are kept in the book, in the order of the accounts, as a new batch with the next number. No
+/// batch is opened if no account has a row. A book that has no number left fails after the faults of the positions, and
+/// before the faults of the next parameters. Its only other error is out of memory. Rows that were put stay in the
+/// book.
 pub fn roll<R: Threads + Wait + Clock + Sync, G: Gate>(
     rt: &R,
     alloc: Global,

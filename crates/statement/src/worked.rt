@@ -1,4 +1,3 @@
-//! Whole files with the answer that the definitions give, each computed from the bytes of both files by the
-//! definitions alone.
+//! Test vectors: whole files with their answers, computed by the definitions from the bytes of both files.
 pub mod counts;
 pub mod rolls;

@@ -1,9 +1,9 @@
--- What a book has of the rows that are put in it.
+-- The rows that are put in a book.
 use Rattle.std.specs.Prelude.{◌≡◌, ◌+◌, ℕ, List, take}
 use Rattle.result_book.specs.Books.{BookView, rows_of}
 use Rattle.step_scheduler.specs.Rows.{RowView}
 
--- one batch more is open, and it has the first of the rows, in their order
+-- one more batch is open, and it has the first rows, in their order
 pub record ArePartlyInBook (before after : BookView) (rows : List RowView) : Type 0 where
   pub opened : after.opened ≡ before.opened + 1
   pub count : ℕ

@@ -8,13 +8,13 @@ ghost use Rattle.statement_text.specs.near.Samples.{commodity, fa, one_commodity
 ghost use Rattle.statement_text.specs.declared.faults.SpanFault.TheVariants as span_fault;
 ghost use Rattle.std.specs.Prelude.{◌++◌, ◌≡◌, Err, Ok, codes};
 
-// A set alone.
+// A SET record alone.
 fn nothing_but_a_set()
     ensures { counts_of set_d1 ≡ Ok (codes "OK,D1,0,0,0,0,0,0\n") }
 {}
 
-// Each kind of record: of commodities, contracts and tiers a different number; of tiers, intracommodity spreads and spot months; and of
-// commodities and intercommodity spreads.
+// Each kind of record. Counts that are tested together differ: commodities, contracts and tiers; tiers, intracommodity
+// spreads and spot months; commodities and intercommodity spreads.
 fn each_kind()
     ensures contracts { counts_of (
         codes "SET,D_1,1,USD\n"
@@ -43,7 +43,7 @@ fn each_kind()
         ≡ Ok (codes "OK,D_1,2,0,0,0,0,3\n") }
 {}
 
-// No set, and a commodity twice.
+// No SET record, and a duplicate commodity.
 fn refused_files()
     ensures no_set { counts_of (commodity (codes "AA")) ≡ Err (span_fault.Params (params.NoSet 1)) }
     ensures commodity_twice { counts_of (one_commodity ++ commodity (codes "AA"))

@@ -11,7 +11,7 @@ use Rattle.statement.proofs.in_book.put_in_book.Invariants.{AreInBook}
 use Rattle.statement.specs.near.InBook.{ArePartlyInBook}
 use Rattle.statement.proofs.in_book.put_in_book.Goals as goal
 
--- a book with the first of the rows has a part of them
+-- a book that has the first rows has a part of the rows
 partly : (before now : BookView) (batch i : ℕ) (rows first_rows : List RowView) → first_rows ≡ take i rows
     → AreInBook before now batch first_rows → ArePartlyInBook before now rows
 partly before now batch i rows first_rows are state = record {
@@ -20,7 +20,7 @@ partly before now batch i rows first_rows are state = record {
   first_rows = rw (← state.batch_is) (state.in_book ∙ are);
 }
 
--- a book with the first of the rows refuses no row that comes next
+-- a book that has the first rows accepts the next row
 not_refused : (before now : BookView) (batch : ℕ) (rows : List RowView) (account : List ℕ) → AreInBook before now batch rows
     → row_for rows account ≡ None → put_fault now batch account ≡ None
 not_refused before now batch rows account state new =

@@ -4,7 +4,7 @@ use Rattle.result_book.specs.Books.{BookView, rows_of}
 use Rattle.step_scheduler.specs.Rows.{RowView}
 use Rattle.statement.proofs.in_book.put_in_book.Given as goal
 
--- the rows so far are those of the new batch, and all other batches are as they were
+-- the new batch has the rows so far, and all other batches are unchanged
 pub record AreInBook (before now : BookView) (batch : ℕ) (rows : List RowView) : Type 0 where
   pub opened : now.opened ≡ before.opened + 1
   pub batch_is : batch ≡ before.opened + 1
