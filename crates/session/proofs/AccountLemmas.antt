@@ -13,7 +13,7 @@ use Rattle.session.specs.near.Kept.{AreOnce, AreUnderNames}
 pub name_flip : (a b : List ℕ) → bytes_eq a b ≡ bytes_eq b a
 name_flip a b = nat_list_eq_equiv.symm a b
 
--- what is found under a name is the account of the name
+-- the account found under a name is the account with this name
 pub named-kept : (es : List (List ℕ × AccountHoldings)) → AreUnderNames es → (name : List ℕ)
     → lookup (bytes_eq name) es ≡ account_named (values_of es) name
 named-kept [] under name = refl
@@ -42,7 +42,7 @@ under_if : (e : List ℕ × AccountHoldings) (es : List (List ℕ × AccountHold
 under_if e es p true same under more = (sym (same_name p.account e.0 same), under.1)
 under_if e es p false other under more = (under.0, more)
 
--- each account still stands under its name
+-- each account is still kept under its name
 pub put-under : (es : List (List ℕ × AccountHoldings)) → AreUnderNames es → (p : AccountHoldings)
     → AreUnderNames (insert_entry bytes_eq es p.account p)
 put-under [] under p = (refl, tt)
@@ -52,18 +52,18 @@ keys-kept : (es : List (List ℕ × AccountHoldings)) → AreUnderNames es → k
 keys-kept [] under = refl
 keys-kept (e ∷ es) under = ap (λ key. key ∷ keys_of es) under.0 ∙ ap (λ keys. (e.1).account ∷ keys) (keys-kept es under.1)
 
--- if no key stands twice, no account does
+-- if the keys are distinct, the accounts are distinct
 pub once-kept : (es : List (List ℕ × AccountHoldings)) → AreUnderNames es → IsDistinct bytes_eq (keys_of es) → AreOnce (values_of es)
 once-kept es under distinct = subst (IsDistinct bytes_eq) (keys-kept es under) distinct
 
--- the names behind the first are others
+-- the names after the first differ from it
 apart : (name : List ℕ) (ps : List AccountHoldings) (p : AccountHoldings) (rest : List AccountHoldings)
     → AllByRecursion (λ y. bytes_eq name y ≡ false) (map (λ (q : AccountHoldings). q.account) (ps ++ p ∷ rest))
     → bytes_eq name p.account ≡ false
 apart name [] p rest all = all.0
 apart name (q ∷ ps) p rest all = apart name ps p rest all.1
 
--- an account that no earlier one is goes last
+-- an account that differs from all earlier ones is appended
 pub put-last : (ps : List AccountHoldings) (p : AccountHoldings) (rest : List AccountHoldings) → AreOnce (ps ++ p ∷ rest)
     → with_account ps p ≡ ps ++ p ∷ []
 unfolding IsDistinct
@@ -72,7 +72,7 @@ put-last (q ∷ ps) p rest once =
     ap (λ b. cond b (p ∷ ps) (q ∷ with_account ps p)) (name_flip p.account q.account ∙ apart q.account ps p rest once.0)
     ∙ ap (λ more. q ∷ more) (put-last ps p rest once.1)
 
--- one account more that was put last, in front of those that are left
+-- one more account was appended, before the remaining ones
 pub put-next : (done : List AccountHoldings) (p : AccountHoldings) (rest all : List AccountHoldings) → AreOnce all
     → done ++ p ∷ rest ≡ all → with_account done p ++ rest ≡ all
 put-next done p rest all once is =

@@ -1,4 +1,4 @@
--- Answers about trades, by what their account holds by itself.
+-- Answers about trades, computed from the holdings of their account alone.
 use Rattle.std.proofs.Common.{◌≡◌, ◌∙◌, ◌<◌, ℕ, Bool, true, false, List, [], ◌∷◌, length, sym, ap, subst, arith}
 use Rattle.std.proofs.Common.{Option, Some, None, Result, Ok, Err, refl}
 use Rattle.std.specs.Prelude.{All, MatchBool, ⊤, if◌then◌else◌}
@@ -23,7 +23,7 @@ use Rattle.session.specs.near.Answering.{is_memory}
 use Rattle.session.proofs.LossLemmas.{if_either, if_memory, refuses_memory}
 use Rattle.session.proofs.TriedLemmas.{same_fault, same_tried}
 
--- what an account holds by itself fits, if all accounts do
+-- the holdings of one account fit, if the holdings of all accounts do
 pub own_fits : (n : ℕ) (accounts : List AccountHoldings) (name : List ℕ) → All (λ p. fits n p.holdings ≡ true) accounts
     → All (λ p. fits n p.holdings ≡ true) (option_to_list (account_named accounts name))
 own_fits n accounts name all = by (account_named accounts name) refl
@@ -53,7 +53,7 @@ module _ (s : State) (order account : List ℕ) (trades : List Trade) (some : 0 
   tried_among [] some = absurd (omega (arith, some))
   tried_among (t ∷ ts) some = same_tried order account s.tables.contracts s.accounts t ts
 
-  -- trades that fit are evaluated on what their account holds
+  -- trades that fit are evaluated on the holdings of their account
   pub tried_ok : order_bind_fault s.tables.contracts (option_to_list (account_named s.accounts account))
       (trade_records order account trades) ≡ None
       → tried s order account trades
@@ -71,7 +71,7 @@ module _ (s : State) (order account : List ℕ) (trades : List Trade) (some : 0 
       ap (λ o. ok_unless o (tried_order s.tables.contracts s.accounts (trade_records order account trades) order))
       (sym (fault_among trades some) ∙ is)
 
-  -- those that do not are refused
+  -- trades that do not fit are rejected
   pub unfit_refused : (names : ℕ) (answer : TriedOrder → Answered) (e : OrderBindFault) (r : Refusal)
       → MatchBool (is_bind_memory e) ⊤ (order_bind_fault s.tables.contracts (option_to_list (account_named s.accounts account))
       (trade_records order account trades) ≡ Some e)
@@ -107,7 +107,7 @@ if_yes : {A : Type 0} (b : Bool) (x y : A) → b ≡ true → (if b then x else 
 if_yes true x y e = refl
 if_yes false x y e = cc
 
--- an account that has no place is refused
+-- an account for which there is no room is rejected
 pub no_place_refused : (s : State) (account : List ℕ) (trades : List Trade) → has_no_place s account ≡ true
     → fill_answer s account trades ≡ Err refused.TooManyAccounts
 no_place_refused s account trades place =

@@ -1,4 +1,4 @@
--- The fills of a session as records behind the records of the position file.
+-- The fills of a session as records after the records of the position file.
 use Rattle.std.proofs.Common.{◌≡◌, ◌∙◌, ◌<◌, ℕ, Bool, true, false, cond, ◌||◌, ◌&&◌, List, [], ◌∷◌, ◌++◌, length, map}
 use Rattle.std.proofs.Common.{filter}
 use Rattle.std.proofs.Common.{Option, Some, None, Result, Ok, Err, refl, sym, ap, subst, arith, append_assoc}
@@ -58,9 +58,9 @@ use Rattle.session.specs.Refusals as refused
 use Rattle.session.proofs.FormLemmas.{first_named}
 use Rattle.session.proofs.TriedLemmas.{account_is, one_order}
 
--- ---- accounts behind others
+-- ---- an account after other accounts
 
--- an account with what it holds
+-- an account with its holdings
 abbrev held_as : (List ℕ → List Holding) → List ℕ → AccountHoldings
 held_as held name = record { account = name; holdings = held name }
 
@@ -77,7 +77,7 @@ module _ (held later : List ℕ → List Holding) (account : List ℕ)
       let rest = others_same names parts.1 in
       λ i. here i ∷ rest i
 
-  -- one account holds what it holds later, in its place or at the end
+  -- one account gets its later holdings, at its index or at the end
   with_later : (names : List (List ℕ)) → has_repeat bytes_eq names ≡ false
       → with_account (map (held_as held) names) (held_as later account)
       ≡ map (held_as later) (cond (is_among names account) names (names ++ account ∷ []))
@@ -113,7 +113,7 @@ module _ (held later : List ℕ → List Holding) (account : List ℕ)
           ∙ ap (map (held_as later)) (front (is_among names account))
           ∙ sym (ap (λ b. map (held_as later) (cond (b || is_among names account) (n ∷ names) ((n ∷ names) ++ account ∷ []))) e)
 
--- ---- names behind others
+-- ---- a name after other names
 
 among_last : (names : List (List ℕ)) (account : List ℕ) → is_among (names ++ account ∷ []) account ≡ true
 among_last [] account = ap (λ b. b || false) (bytes_eq-refl account)
@@ -128,7 +128,7 @@ if_twice : (b : Bool) (names : List (List ℕ)) (account : List ℕ) → is_amon
 if_twice b names account e =
     distinct-push names account ∙ ap (λ t. cond t (distinct names) (distinct names ++ account ∷ [])) e
 
--- one name behind others, however often
+-- one name, repeated, after other names
 names_behind : (names : List (List ℕ)) (account : List ℕ) (t : Trade) (ts : List Trade)
     → distinct (names ++ map (λ (u : Trade). account) (t ∷ ts))
     ≡ cond (is_among names account) (distinct names) (distinct names ++ account ∷ [])
@@ -163,7 +163,7 @@ module _ (contracts : List Contract) (positions : List PositionRecord) (account 
       (bytes_eq-flip account name ∙ other)
       ∙ none_booked name other contract ts
 
-  -- other accounts hold what they did
+  -- the holdings of other accounts are unchanged
   held_same : (ts : List Trade) (name : List ℕ) → bytes_eq name account ≡ false
       → holdings_of contracts positions name ≡ holdings_of contracts (positions ++ booked_records account ts) name
   held_same ts name other =
@@ -174,7 +174,7 @@ module _ (contracts : List Contract) (positions : List PositionRecord) (account 
       let none = none_booked name other x.id ts in
       omega (arith, ints, whole, none)))
 
-  -- the records with the records of a FILL behind them have the accounts behind the FILL
+  -- the records followed by the records of a FILL have the accounts after the FILL
   accounts_behind : (t : Trade) (ts : List Trade)
       → with_account (portfolios_of contracts positions)
       (record { account = account; holdings = holdings_of contracts (positions ++ booked_records account (t ∷ ts)) account })
@@ -189,7 +189,7 @@ module _ (contracts : List Contract) (positions : List PositionRecord) (account 
       ∙ ap (λ more. distinct (names ++ more)) (sym (accounts_booked (t ∷ ts)))
       ∙ ap distinct (sym (map_both positions (booked_records account (t ∷ ts)))))
 
--- the records of the one order that a FILL is
+-- the records of a FILL as one order
 positions_booked : (account : List ℕ) (ts : List Trade)
     → positions_of_order (trade_records account account ts) account ≡ booked_records account ts
 positions_booked account [] = refl
@@ -220,7 +220,7 @@ orders_are contracts accounts records none =
       orders = map (tried_order contracts accounts records) (orders_in records);
     } in all)) none
 
--- what an answer to a FILL says that is none of a refusal
+-- the content of an answer to a FILL that is not rejected
 pub record IsFilled (s : State) (account : List ℕ) (trades : List Trade) (a : Answered) : Type 0 where
   pub place : has_no_place s account ≡ false
   pub none : order_bind_fault s.tables.contracts s.accounts (trade_records account account trades) ≡ None
@@ -283,7 +283,7 @@ module _ (params : List ℕ) (t : AcceptedTables) (accepted : accepted_of params
       ∙ (λ i. holdings_of t.contracts (positions ++ positions_booked account (u ∷ us) i) (name i)) in
       λ i. (let p : AccountHoldings = record { account = name i; holdings = held i } in p)
 
-  -- a FILL that is not refused is its records behind the others
+  -- a FILL that is not rejected appends its records to the others
   pub filled_behind : (a : Answered) → fill_answer (record { tables = t; accounts = accounts }) account (u ∷ us) ≡ Ok a
       → (portfolios_under t (positions ++ booked_records account (u ∷ us)) ≡ Ok a.state.accounts) × (a.state.tables ≡ t)
   filled_behind a e =
@@ -303,12 +303,12 @@ trades_some [] some = absurd (omega (arith, some))
 trades_some (c ∷ []) some = absurd (omega (arith, some))
 trades_some (c ∷ q ∷ rest) some = omega arith
 
--- if what is asked for is a FILL, its account is a name, and it has trades
+-- if the request is a FILL, its account is a name, and it has trades
 unfoldable pub HasTrades : Asked → Type 0
 HasTrades (asked.Fill account trades) = (is_name account ≡ true) × (0 < length trades)
 HasTrades _ = ⊤
 
--- fields with trades behind two of them are more than one
+-- there is more than one field if there are trades after the first two
 drop_some : (fields : List (List ℕ)) → 0 < length (trades_of (drop 2 fields)) → 1 < length fields
 drop_some [] some = absurd (omega (arith, some))
 drop_some (x ∷ []) some = absurd (omega (arith, some))
@@ -405,7 +405,7 @@ pub unchanged_stays : (s : State) (lines : List ℕ) (a : Answered) → unchange
 unchanged_stays s lines a e = cc
 
 module _ (params : List ℕ) (t : AcceptedTables) (accepted : accepted_of params ≡ Ok t) where
-  -- the state has the accounts of positions
+  -- the state has the accounts of the positions
   abbrev IsOf : List PositionRecord → State → Type 0
   IsOf positions s = (portfolios_under t positions ≡ Ok s.accounts) × (s.tables ≡ t)
 
@@ -471,7 +471,7 @@ module _ (params : List ℕ) (t : AcceptedTables) (accepted : accepted_of params
       (All-tail (λ (x : Turn). is_set (request_on x.request) ≡ false) turn turns kept)
       (turn_behind positions s turn (All-head (λ (x : Turn). is_set (request_on x.request) ≡ false) turn turns kept) is))
 
-  -- the records with all that requests book behind them have the accounts behind the requests
+  -- the records followed by all records that requests book have the accounts after the requests
   pub all_behind : (records : List PositionRecord) (accounts : List AccountHoldings) (turns : List Turn)
       → portfolios_under t records ≡ Ok accounts → All (λ turn. is_set (request_on turn.request) ≡ false) turns
       → (portfolios_under t (records ++ booked_in (record { tables = t; accounts = accounts }) turns)
@@ -480,7 +480,7 @@ module _ (params : List ℕ) (t : AcceptedTables) (accepted : accepted_of params
   all_behind records accounts turns bound kept =
       turns_behind turns records (record { tables = t; accounts = accounts }) kept (bound, refl)
 
--- so the statement of a file with these records is what MARGIN answers
+-- therefore MARGIN answers the statement of a file with these records
 pub margin_behind : (params positions more : List ℕ) (s : State) (turns : List Turn) (records : List PositionRecord)
     → opened params positions ≡ Ok s → positions_of positions ≡ Ok records
     → All (λ turn. is_set (request_on turn.request) ≡ false) turns → positions_of more ≡ Ok (records ++ booked_in s turns)

@@ -1,4 +1,4 @@
--- The position records of a session's accounts are bound to the same accounts.
+-- The position records of a session's accounts are bound to the same accounts again.
 use Rattle.std.proofs.Common.{◌≡◌, ◌∙◌, ◌⊎◌, inl, inr, ℕ, zero, suc, ◌+◌, ◌<◌, ◌≤◌, Bool, true, false, cond, not, ◌&&◌, ◌||◌, ◌==◌}
 use Rattle.std.proofs.Common.{List, [], ◌∷◌, ◌++◌, length, map, filter, Some, None, Ok, refl, sym, ap, subst, arith, slice_get}
 use Rattle.std.specs.Prelude.{◌+ℤ◌, bytes_eq, find, nat_abs, nat_lt, option_map, pos, unwrap_or}
@@ -38,12 +38,12 @@ use Rattle.session.proofs.KeptStateLemmas.{kept_behind, numbered_fit, weaker}
 
 -- ---- lists
 
--- a test that fails of all holds of none
+-- if a test is always false, no element passes it
 never : {X : Type 0} (test : X → Bool) → ((x : X) → test x ≡ false) → (xs : List X) → list_any test xs ≡ false
 never test none [] = refl
 never test none (x ∷ xs) = or_from (test x) (list_any test xs) (none x) (never test none xs)
 
--- what passed a test passes it again
+-- filtering twice is filtering once
 filter_again : {X : Type 0} (test : X → Bool) (xs : List X) → filter test (filter test xs) ≡ filter test xs
 filter_again test [] = refl
 filter_again test (x ∷ xs) = by (test x) refl (filter_again test xs)
@@ -53,7 +53,7 @@ filter_again test (x ∷ xs) = by (test x) refl (filter_again test xs)
     by true e more = ap (λ b. cond b (x ∷ filter test (filter test xs)) (filter test (filter test xs))) e ∙ ap (λ rest. x ∷ rest) more
     by false e more = more
 
--- names that are others stay
+-- dropping a name from a list of other names changes nothing
 others_stay : (name : List ℕ) (names : List (List ℕ)) → AllByRecursion (λ y. bytes_eq name y ≡ false) names
     → filter (λ other. not (bytes_eq other name)) names ≡ names
 others_stay name [] all = refl
@@ -64,7 +64,7 @@ others_stay name (n ∷ names) all =
 
 -- ---- accounts by their names
 
--- an account that is none of these holds nothing
+-- an account that is not in the list holds nothing
 none_among : (name : List ℕ) (ps : List AccountHoldings)
     → AllByRecursion (λ y. bytes_eq name y ≡ false) (map (λ (q : AccountHoldings). q.account) ps) → holdings_among ps name ≡ []
 none_among name [] all = refl
@@ -73,7 +73,7 @@ none_among name (p ∷ ps) all =
     (cond b (Some p) (find (λ q. bytes_eq q.account name) ps))) []) (bytes_eq-flip p.account name ∙ all.0)
     ∙ none_among name ps all.1
 
--- accounts with other names hold the same with one more in front
+-- the holdings of accounts with other names are the same if one more account is in front
 later_held : (p : AccountHoldings) (all qs : List AccountHoldings)
     → AllByRecursion (λ y. bytes_eq p.account y ≡ false) (map (λ (q : AccountHoldings). q.account) qs)
     → AllByRecursion (λ (q : AccountHoldings). holdings_among all q.account ≡ q.holdings) qs
@@ -85,7 +85,7 @@ later_held p all (q ∷ qs) others held = (
   later_held p all qs others.1 held.1,
 )
 
--- each account holds among all what it has
+-- looked up by name, each account has its own holdings
 each_held : (ps : List AccountHoldings) → AreOnce ps
     → AllByRecursion (λ (q : AccountHoldings). holdings_among ps q.account ≡ q.holdings) ps
 unfolding IsDistinct
@@ -96,7 +96,7 @@ each_held (p ∷ ps) once = (
   later_held p ps ps once.0 (each_held ps once.1),
 )
 
--- accounts are given by their names and by what each name holds
+-- accounts are determined by their names and by the holdings of each name
 rebuilt : (held : List ℕ → List Holding) (ps : List AccountHoldings)
     → AllByRecursion (λ (p : AccountHoldings). held p.account ≡ p.holdings) ps
     → map (λ name. record { account = name; holdings = held name }) (map (λ (p : AccountHoldings). p.account) ps) ≡ ps
@@ -111,7 +111,7 @@ rebuilt held (p ∷ ps) all =
 not_none : (h : Holding) (hs : List Holding) → (length (h ∷ hs) == 0) ≡ false
 not_none h hs = ne_eqb (length (h ∷ hs)) 0 (λ e. omega (arith, e))
 
--- the record of an account that holds nothing has its name, adds nothing to a net, and is of a contract that there is
+-- the record of an account that holds nothing has its name, adds nothing to a net, and has a known contract
 named_flat : (account : List ℕ) (xs : List Contract)
     → AllByRecursion (λ (r : PositionRecord). r.account ≡ account) (flat_records xs account)
 named_flat account [] = tt
@@ -139,7 +139,7 @@ flat_net account name id (x ∷ xs) = by (bytes_eq account name && bytes_eq x.id
     by true = refl
     by false = refl
 
--- names that are all the same, in front of others
+-- equal names in front of others
 same_front : (account : List ℕ) (rs : List PositionRecord) (names : List (List ℕ)) → AllByRecursion (λ r. r.account ≡ account) rs
     → filter (λ other. not (bytes_eq other account)) (distinct (map (λ (r : PositionRecord). r.account) rs ++ names))
     ≡ filter (λ other. not (bytes_eq other account)) (distinct names)
@@ -152,7 +152,7 @@ same_front account (r ∷ rs) names all =
     ∙ filter_again (λ other. not (bytes_eq other account)) rest
     ∙ same_front account rs names all.1
 
--- records of one account in front of others give its name in front of theirs
+-- the records of one account followed by others have its name followed by the other names
 one_front : (account : List ℕ) (rs : List PositionRecord) (names : List (List ℕ)) → 0 < length rs
     → AllByRecursion (λ r. r.account ≡ account) rs → AllByRecursion (λ y. bytes_eq account y ≡ false) (distinct names)
     → distinct (map (λ (r : PositionRecord). r.account) rs ++ names) ≡ account ∷ distinct names
@@ -162,7 +162,7 @@ one_front account (r ∷ rs) names some all others =
     ap (λ name. name ∷ filter (λ other. not (bytes_eq other name)) rest) all.0
     ∙ ap (λ back. account ∷ back) (same_front account rs names all.1 ∙ others_stay account (distinct names) others)
 
--- the contract of each number is known
+-- the contract at each index is known
 known_at : (xs : List Contract) (k : ℕ) → k < length xs
     → list_any (λ x. bytes_eq x.id (unwrap_or (option_map (λ (x : Contract). x.id) (slice_get xs k)) [])) xs ≡ true
 known_at [] k lt = absurd (omega (arith, lt))
@@ -176,7 +176,7 @@ first_known account [] = refl
 first_known account (x ∷ xs) =
     ap (λ b. not (b || list_any (λ y. bytes_eq y.id x.id) xs) || false) (bytes_eq-refl x.id)
 
--- by their numbers, no holdings are none
+-- no holdings, listed by contract index, are no holdings
 numbered_none : (a : ℕ) (xs : List Contract) → held_of_all (λ k x. net_among [] k) a xs ≡ []
 numbered_none a [] = refl
 numbered_none a (x ∷ xs) = numbered_none (a + 1) xs
@@ -198,7 +198,7 @@ module _ (contracts : List Contract) where
       by true = named_flat p.account contracts
       by false = named_held p.account p.holdings
 
-  -- each account has a record
+  -- each account has at least one record
   records_some : 0 < length contracts → (account : List ℕ) (hs : List Holding)
       → 0 < length (account_records contracts (record { account = account; holdings = hs }))
   records_some some account [] = by contracts some
@@ -210,7 +210,7 @@ module _ (contracts : List Contract) where
       subst (λ b. 0 < length (cond b (flat_records contracts account) (map (held_record contracts account) (h ∷ hs))))
       (sym (not_none h hs)) (omega arith)
 
-  -- the accounts of the records are the accounts
+  -- the accounts of the records are the original accounts
   pub names_are : 0 < length contracts → (ps : List AccountHoldings) → AreOnce ps
       → accounts_of (position_records contracts ps) ≡ map (λ p. p.account) ps
   unfolding IsDistinct
@@ -223,7 +223,7 @@ module _ (contracts : List Contract) where
       (subst (AllByRecursion (λ y. bytes_eq p.account y ≡ false)) (sym rest) once.0)
       ∙ ap (λ names. p.account ∷ names) rest
 
-  -- all records are of contracts that there are
+  -- all records have known contracts
   none_foreign : (account : List ℕ) (hs : List Holding) → fits (length contracts) hs ≡ true
       → list_any (is_unknown contracts) (map (held_record contracts account) hs) ≡ false
   none_foreign account [] fit = refl
@@ -247,7 +247,7 @@ module _ (contracts : List Contract) where
       list_any-append (is_unknown contracts) (account_records contracts p) (position_records contracts ps)
       ∙ or_from _ _ (own_known p kept.0) (all_known ps kept.1)
 
-  -- what an account holds among kept ones is in the order of contracts
+  -- the holdings of an account among kept accounts are in the order of contracts
   among_numbered : (name : List ℕ) (ps : List AccountHoldings) → AllByRecursion (IsKeptAccount contracts) ps
       → by_number contracts (holdings_among ps name) ≡ holdings_among ps name
   among_numbered name [] kept = numbered_none 0 contracts
@@ -275,7 +275,7 @@ module _ (contracts : List Contract) where
         ap (λ b. net_of (cond b (flat_records contracts account) (map (held_record contracts account) (h ∷ hs))) account id) (not_none h hs)
         ∙ net_named contracts apart account id (h ∷ hs) fit
 
-    -- the net of the records of all accounts, by the holdings of the account of the name
+    -- the net of a name in the records of all accounts, from the holdings of the account with this name
     net_all : (name id : List ℕ) (ps : List AccountHoldings) → AreOnce ps → AllByRecursion (IsKeptAccount contracts) ps
         → net_of (position_records contracts ps) name id ≡ net_among (holdings_among ps name) (place id)
     unfolding IsDistinct
@@ -307,7 +307,7 @@ module _ (contracts : List Contract) where
       abbrev records : List PositionRecord
       records = position_records contracts all
 
-      -- by the records, each name holds what it does among the accounts
+      -- the holdings of each name by the records are its holdings among the accounts
       holds : (name : List ℕ) → holdings_of contracts records name ≡ holdings_among all name
       holds name =
           ap (filter is_held) (same_numbered (λ k x. net_of records name x.id) (λ k x. net_among (holdings_among all name) k) 0 contracts
@@ -317,7 +317,7 @@ module _ (contracts : List Contract) where
           net_all name x.id all once kept ∙ ap (net_among (holdings_among all name)) (number ∙ sym first)))
           ∙ among_numbered name all kept
 
-      -- so no record has a fault
+      -- therefore no record has a fault
       portfolio : (name : List ℕ) → ArePortfolio (holdings_among all name)
       portfolio name =
           among_holds name all (All-from_recursion (λ (p : AccountHoldings). ArePortfolio p.holdings) all
@@ -368,14 +368,14 @@ accounts_again s kept (inl some) = same_accounts s.tables.contracts kept.apart s
 accounts_again s kept (inr none) =
     ap (λ ps. portfolios_of s.tables.contracts (position_records s.tables.contracts ps)) none ∙ sym none
 
--- the records of a kept state's accounts are bound to these
+-- the records of a kept state's accounts are bound to these accounts
 pub bound_again : (s : State) → IsKeptState s → (0 < length s.tables.contracts) ⊎ (s.accounts ≡ [])
     → portfolios_under s.tables (position_records s.tables.contracts s.accounts) ≡ Ok s.accounts
 unfolding portfolios_under bindings_of
 bound_again s kept some =
     let none = no_fault s.tables.contracts kept.apart s.accounts kept.once kept.accounts in rw none (ap Ok (accounts_again s kept some))
 
--- a file of these records has the statement of the accounts
+-- the statement of a file of these records is the statement of the accounts
 pub statement_again : (params positions current file : List ℕ) (s : State) (turns : List Turn) → opened params positions ≡ Ok s
     → accepted_of current ≡ Ok (state_behind s turns).tables
     → (0 < length (state_behind s turns).tables.contracts) ⊎ ((state_behind s turns).accounts ≡ [])

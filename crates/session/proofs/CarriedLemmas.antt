@@ -1,4 +1,4 @@
--- What an account comes to hold under a set, if the set has the contracts that it held before.
+-- The holdings of an account under another parameter set, if the set has the contracts that the account held before.
 use Rattle.std.proofs.Common.{◌≡◌, ℕ, ◌+◌, ◌<◌, ◌≤◌, ◌⊎◌, Bool, true, false, cond, ◌&&◌, List, [], ◌∷◌}
 use Rattle.std.proofs.Common.{length, map, filter, get_or, Some, None, slice_get, refl, sym, ap, subst, ◌∙◌, arith, inl, inr}
 use Rattle.std.specs.Prelude.{ℤ, pos, ◌+ℤ◌, ◌==◌, bytes_eq, nat_abs, nat_lt, option_map, unwrap_or}
@@ -25,19 +25,19 @@ use Rattle.binding.proofs.OrderLaws.{among_within}
 use Rattle.binding.proofs.PortfolioLaws.{held_holds}
 use Rattle.session.specs.Accounts.{contract_of, held_record}
 
--- ---- how many contracts records come to
+-- ---- the number of contracts held by records
 
 -- records of one account
 module _ (account : List ℕ) where
   abbrev net : List PositionRecord → ℕ → Contract → ℤ
   net records k x = net_of records account x.id
 
-  -- nothing is held by no records
+  -- no records hold no contract
   none_held : (a : ℕ) (xs : List Contract) → held_of_all (net []) a xs ≡ []
   none_held a [] = refl
   none_held a (x ∷ xs) = none_held (a + 1) xs
 
-  -- a record adds to a net that it is of
+  -- a record adds to the net of its contract
   net_more : (r : PositionRecord) (records : List PositionRecord) (k : ℕ) (x : Contract)
       → net (r ∷ records) k x
       ≡ cond (bytes_eq r.account account && bytes_eq r.contract x.id) r.quantity (pos 0) +ℤ net records k x
@@ -45,7 +45,7 @@ module _ (account : List ℕ) where
       int_sum_by-if (λ (p : PositionRecord). p.quantity) (bytes_eq r.account account && bytes_eq r.contract x.id) r
       (filter (λ p. bytes_eq p.account account && bytes_eq p.contract x.id) records)
 
-  -- and to no other
+  -- and to no other net
   net_same : (r : PositionRecord) (records : List PositionRecord) (k : ℕ) (x : Contract) → bytes_eq r.contract x.id ≡ false
       → net (r ∷ records) k x ≡ net records k x
   net_same r records k x other = by (bytes_eq r.account account) (net_more r records k x)
@@ -58,7 +58,7 @@ module _ (account : List ℕ) where
           ∙ (let nothing : pos 0 +ℤ net records k x ≡ net records k x = omega (arith, ints) in nothing)
       by false is = is ∙ (let nothing : pos 0 +ℤ net records k x ≡ net records k x = omega (arith, ints) in nothing)
 
-  -- contracts that a record is not of are held as without it
+  -- the holdings of other contracts are the same without a record
   held_same : (r : PositionRecord) (records : List PositionRecord) (a : ℕ) (xs : List Contract)
       → list_any (λ x. bytes_eq r.contract x.id) xs ≡ false
       → held_of_all (net (r ∷ records)) a xs ≡ held_of_all (net records) a xs
@@ -86,7 +86,7 @@ module _ (account : List ℕ) where
       → list_any (λ y. bytes_eq x.id y.id) xs ≡ false → list_any (λ y. bytes_eq name y.id) xs ≡ false
   apart_from name x xs same none = ap (λ n. list_any (λ y. bytes_eq n y.id) xs) (same_name name x.id same) ∙ none
 
-  -- a record is of one contract, at most
+  -- a record adds at most one holding
   one_held : (r : PositionRecord) (records : List PositionRecord) (a : ℕ) (xs : List Contract)
       → has_repeat (λ x y. bytes_eq x.id y.id) xs ≡ false
       → length (held_of_all (net (r ∷ records)) a xs) ≤ 1 + length (held_of_all (net records) a xs)
@@ -116,7 +116,7 @@ module _ (account : List ℕ) where
           (sym (net_same r records a x e))
           (same_more (is_held (numbered (net records) (a, x))) (numbered (net records) (a, x)) with_r without more)
 
-  -- records come to no more contracts than they are
+  -- there are at most as many holdings as records
   pub few_held : (contracts : List Contract) → has_repeat (λ x y. bytes_eq x.id y.id) contracts ≡ false
       → (records : List PositionRecord) → length (holdings_of contracts records account) ≤ length records
   few_held contracts apart [] = subst (λ held. length held ≤ 0) (sym (none_held 0 contracts)) (omega arith)
@@ -125,7 +125,7 @@ module _ (account : List ℕ) where
       let more = few_held contracts apart records in
       omega (arith, one, more)
 
--- ---- the nets of what is held
+-- ---- the nets of holdings
 
 module _ (old : List Contract) (apart : has_repeat (λ x y. bytes_eq x.id y.id) old ≡ false) (account id : List ℕ) where
   place : ℕ
@@ -138,7 +138,7 @@ module _ (old : List Contract) (apart : has_repeat (λ x y. bytes_eq x.id y.id) 
       by (inl e) = eq-eqb a b e ∙ sym (eq-eqb b a (sym e))
       by (inr n) = ne_eqb a b n ∙ sym (ne_eqb b a (λ e. n (sym e)))
 
-  -- a holding is of the contract of a name exactly if it has its number
+  -- a holding has the contract with an id if and only if it has its index
   same_test : (h : Holding) → h.contract < length old → bytes_eq (contract_of old h) id ≡ (h.contract == place)
   unfolding place
   same_test h lt = by (slice_get_cases old h.contract).1
@@ -152,7 +152,7 @@ module _ (old : List Contract) (apart : has_repeat (λ x y. bytes_eq x.id y.id) 
           ∙ eqb_flip (position_or_len (bytes_eq id) (ids_of old)) h.contract
       by (inr past) = absurd (omega (arith, lt, past.0))
 
-  -- the net of a name, by the records of what is held, is the net of its contract's number
+  -- the net of an id, by the records of the holdings, is the net of its contract's index
   pub net_named : (hs : List Holding) → fits (length old) hs ≡ true
       → net_of (map (held_record old account) hs) account id ≡ net_among hs (position_or_len (bytes_eq id) (ids_of old))
   unfolding place
@@ -168,7 +168,7 @@ module _ (old : List Contract) (apart : has_repeat (λ x y. bytes_eq x.id y.id) 
       ∙ (λ i. cond (test i) h.net (pos 0) +ℤ net_named hs parts.1 i)
       ∙ sym (int_sum_by-if (λ (x : Holding). x.net) (h.contract == place) h (filter (λ (x : Holding). x.contract == place) hs))
 
--- what an account held is a portfolio under another set, too
+-- the holdings of an account are a portfolio under another parameter set, too
 pub carried_holds : (old new : List Contract) → has_repeat (λ x y. bytes_eq x.id y.id) old ≡ false
     → has_repeat (λ x y. bytes_eq x.id y.id) new ≡ false → (account : List ℕ) (hs : List Holding) → fits (length old) hs ≡ true
     → ArePortfolio hs → ArePortfolio (holdings_of new (map (held_record old account) hs) account)
@@ -181,7 +181,7 @@ carried_holds old new apart new_apart account hs fit portfolio =
     let most = portfolio.few in
     omega (arith, few, count, most))
 
--- on an account that holds nothing, positions come to what they come to by themselves
+-- positions added to an account that holds nothing give the holdings of the positions alone
 pub holdings_alone : (contracts : List Contract) (positions : List PositionRecord) (account : List ℕ)
     → holdings_with contracts [] positions account ≡ holdings_of contracts positions account
 holdings_alone contracts positions account =

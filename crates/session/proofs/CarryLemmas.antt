@@ -1,4 +1,4 @@
--- The accounts of a session that are carried to another set, one after the other.
+-- The accounts of a session that are carried over to another parameter set, one after the other.
 use Rattle.std.proofs.Common.{◌≡◌, ◌∙◌, suc, Bool, true, false, cond, List, [], ◌∷◌, ◌++◌, length, map, flat_map, Option, Some, None}
 use Rattle.std.proofs.Common.{refl, sym, ap, subst, arith, append_assoc}
 use Rattle.std.specs.Prelude.{⊤, All, MatchBool, bytes_eq, find, option_map}
@@ -46,7 +46,7 @@ module _ (set : SetView) (old : List Contract) (all : List AccountHoldings) wher
   abbrev lost : AccountHoldings → Option PositionRecord
   lost p = find (is_unknown set.tables.contracts) (held_records old p)
 
-  -- none is carried at first
+  -- at first no account is carried over
   pub none_carried : All (λ p. fits (length old) p.holdings ≡ true) all → AreCarried set old all all []
   none_carried fit = record {
     accounts = refl;
@@ -60,7 +60,7 @@ module _ (set : SetView) (old : List Contract) (all : List AccountHoldings) wher
     pub next_fits : fits (length old) p.holdings ≡ true
     next_fits = so_far.left_fit 0 p (omega arith)
 
-    -- one more is carried, if the set has its contracts
+    -- one more account is carried over, if the parameter set has its contracts
     pub one_carried : find (is_unknown set.tables.contracts) (held_records old p) ≡ None → (q : AccountHoldings)
         → q ≡ under_contracts old set.tables.contracts p → FitsSet set q → AreCarried set old all left (carried ++ q ∷ [])
     one_carried none q is fits = record {
@@ -72,7 +72,7 @@ module _ (set : SetView) (old : List Contract) (all : List AccountHoldings) wher
           ∙ find_behind (is_unknown set.tables.contracts) (held_records old p) (flat_map (held_records old) left) none;
     }
 
-    -- the contract that it lacks is the first one that is lost
+    -- the contract of it that the parameter set lacks is the first lost one
     pub first_lost : (held : PositionRecord) → find (is_unknown set.tables.contracts) (held_records old p) ≡ Some held
         → lost_record old set.tables.contracts all ≡ Some held
     first_lost held found =
@@ -95,7 +95,7 @@ module _ (set : SetView) (old : List Contract) (all : List AccountHoldings) wher
         by (Some held) e h = ap (option_map lost_by) (first_lost held e) ∙ h
         by None e h = cc
 
-  -- at the end all are carried
+  -- at the end all accounts are carried over
   pub all_carried : (carried : List AccountHoldings) → AreCarried set old all [] carried
       → carried ≡ map (under_contracts old set.tables.contracts) all
   all_carried carried done = sym (append-nil carried) ∙ done.accounts
@@ -104,7 +104,7 @@ module _ (set : SetView) (old : List Contract) (all : List AccountHoldings) wher
   names_kept [] = refl
   names_kept (p ∷ ps) = ap (λ names. p.account ∷ names) (names_kept ps)
 
-  -- and no account stands twice among them
+  -- and they are distinct
   pub carried_once : (carried : List AccountHoldings) → AreCarried set old all [] carried → AreOnce all → AreOnce carried
   carried_once carried done once =
       subst (IsDistinct bytes_eq) (sym (ap (map (λ (p : AccountHoldings). p.account)) (all_carried carried done) ∙ names_kept all)) once

@@ -1,4 +1,4 @@
--- Laws of conversations.
+-- Lemmas about conversations.
 use Rattle.std.proofs.Common.{◌≡◌, ◌∙◌, ◌+◌, ℕ, List, [], ◌∷◌, ◌++◌, Err, length, refl, ap, arith}
 use Rattle.session.specs.Answers.{State}
 use Rattle.session.specs.Conversations.{Turn, answer_of, answer_text, answers_from, numbered_from, outcomes, state_after, state_behind}

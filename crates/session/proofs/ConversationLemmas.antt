@@ -1,4 +1,4 @@
--- Turns of a session, one after the other: the files that they read, the states behind them, and what a desk logs of them.
+-- Turns of a session, one after the other: the files that they read, the states after them, and what a desk logs.
 use Rattle.std.proofs.Common.{◌≡◌, ℕ, ◌+◌, Bool, List, [], ◌∷◌, ◌++◌, Option, get_or, length, map, refl, sym, ap, subst, ◌∙◌}
 use Rattle.std.proofs.Common.{append-nil, append_assoc, arith}
 use Rattle.std.proofs.lemmas.List.{map-append}
@@ -25,7 +25,7 @@ module _ {S : Type 0} (known : List ℕ → Option File) (reads : S → List ℕ
   pub no_turns : (old : S) → AreFromSource known reads old [] old
   no_turns old = record { files = λ k d lt. absurd (omega arith); in_order = refl }
 
-  -- one more turn reads its file, of a source that has the same files
+  -- one more turn reads its file, from a source that has the same files
   pub one_more_turn : (later : List ℕ → Option File) (old mid new : S) (turns : List Turn) (turn : Turn)
       → ((name : List ℕ) → later name ≡ known name) → AreFromSource known reads old turns mid
       → AreFromSource later reads mid (turn ∷ []) new → AreFromSource known reads old (turns ++ turn ∷ []) new
@@ -46,7 +46,7 @@ module _ {S : Type 0} (known : List ℕ → Option File) (reads : S → List ℕ
 
 -- ---- states
 
--- the state behind one more turn
+-- the state after one more turn
 behind_more : (turns : List Turn) (s : State) (turn : Turn)
     → state_behind s (turns ++ turn ∷ []) ≡ state_after (state_behind s turns) (answer_of (state_behind s turns) turn)
 behind_more [] s turn = refl

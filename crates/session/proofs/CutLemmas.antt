@@ -1,4 +1,4 @@
--- Where a line is cut.
+-- The index at which a line is cut.
 use Rattle.std.proofs.Common.{◌≡◌, ◌∙◌, ◌+◌, ◌<◌, ◌==◌, add-one, ℕ, false, List, [], ◌∷◌, ◌++◌, take, drop, get_or}
 use Rattle.std.proofs.Common.{Some, None, sym, ap, inl, inr, arith}
 use Rattle.std.proofs.Math.Seq.{drop-cons}
@@ -10,7 +10,7 @@ use Rattle.std.specs.Prelude.{All}
 use Rattle.memchr.specs.Find.{is_byte, IsFirstByte}
 use Rattle.session.specs.Requests.{fields_of}
 
--- the byte in front of the first comma is none
+-- a byte before the first comma is not a comma
 no_comma : (line : List ℕ) (end k : ℕ) → IsFirstByte (is_byte 44) line (Some end) → k < end → (get_or line k 0 == 44) ≡ false
 no_comma line end k first early =
     elim (cases_Bool (get_or line k 0 == 44)) [
@@ -18,7 +18,7 @@ no_comma line end k first early =
       | inr other ↦ other
     ]
 
--- the field in front of the first comma, and the fields behind it
+-- the field before the first comma, and the fields after it
 pub first_field : (line : List ℕ) (end : ℕ) → IsFirstByte (is_byte 44) line (Some end)
     → fields_of line ≡ take end line ∷ fields_of (drop (end + 1) line)
 first_field line end first =

@@ -1,4 +1,4 @@
--- Trades under the name of another order have the same fault, and their account comes to hold the same.
+-- Trades under the name of another order have the same fault, and give their account the same holdings.
 use Rattle.std.proofs.Common.{◌≡◌, ◌∙◌, ◌<◌, ◌+◌, ◌++◌, ℕ, Bool, true, false, cond, not, ◌&&◌, ◌||◌, List, [], ◌∷◌, length, map, filter}
 use Rattle.std.proofs.Common.{Option, Some, None, Ok, Err, refl, sym, ap, arith}
 use Rattle.std.specs.Prelude.{bytes_eq, if◌then◌else◌, nat_abs, nat_lt, option_map}
@@ -23,7 +23,7 @@ use Rattle.session.specs.Refusals as refused
 use Rattle.session.proofs.AnswerLemmas.{if_no}
 use Rattle.session.proofs.TriedLemmas.{account_is}
 
--- ---- faults by another name
+-- ---- faults under another name
 
 -- a fault of an order under the name of another order
 abbrev renamed : List ℕ → OrderBindFault → OrderBindFault
@@ -66,7 +66,7 @@ module _ (these those : Trade → OrderRecord) (f g : List OrderRecord → Order
       ∙ faults_renamed (es ++ t ∷ []) ts
       ∙ ap (λ front. faults_after g front (map those ts)) (map-append those es (t ∷ [])))
 
--- ---- trades of an account, under the name of an order and under its own
+-- ---- trades of an account, under the name of an order and under the account's name
 
 module _ (contracts : List Contract) (accounts : List AccountHoldings) (order account : List ℕ) (u : Trade) (us : List Trade) where
   abbrev these : Trade → OrderRecord
@@ -202,7 +202,7 @@ module _ (contracts : List Contract) (accounts : List AccountHoldings) (order ac
       (known (those t) && (not (list_any (λ x. bytes_eq x.order account) (filter known (map those es))) && many (map those all) account))
       (λ i. known (these t) && (not (owner_same es i) && many_same i))) [] all
 
-  -- the fault of the trades is the same, but for the name
+  -- the fault of the trades is the same, except for the name
   pub fault_same : option_map (renamed account) (order_bind_fault contracts accounts (map these all))
       ≡ order_bind_fault contracts accounts (map those all)
   unfolding order_bind_fault
@@ -212,7 +212,7 @@ module _ (contracts : List Contract) (accounts : List AccountHoldings) (order ac
       ∙ ap (λ front. front ++ map (renamed account) (held_of these)) (map-append (renamed account) (foreign_of these) (nets_of these))
       ∙ (λ i. (foreign_same i ++ nets_same i) ++ held_same i))
 
--- ---- a FILL behind a TRY
+-- ---- a FILL after a TRY
 
 renamed_unfit : (name : List ℕ) (e : OrderBindFault) → unfit 1 (renamed name e) ≡ unfit 1 e
 renamed_unfit name (fault.UnknownContract at order) = refl

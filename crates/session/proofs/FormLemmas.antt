@@ -1,4 +1,4 @@
--- What the fields of a request are that has no fault.
+-- The fields of a request without a fault.
 use Rattle.std.proofs.Common.{◌≡◌, ◌≢◌, ◌∙◌, ◌+◌, ◌*◌, ◌<◌, ◌≤◌, ℕ, zero, suc, Bool, true, false, not, List, [], ◌∷◌, length, drop, get_or}
 use Rattle.std.proofs.Common.{Option, Some, None, inl, inr, refl, sym, arith, pos}
 use Rattle.std.proofs.lemmas.Bool.{cases_Bool}
@@ -36,7 +36,7 @@ none_found : {A B : Type 0} (f : A → B) (o : Option A) → option_map f o ≡ 
 none_found f None none = refl
 none_found f (Some x) none = cc
 
--- a test that finds nothing does not hold of the first field, and finds nothing behind it
+-- if no field passes a test, the first does not, and none after it does
 first_fails : (test : ℕ → List ℕ → Bool) (n : ℕ) (x : List ℕ) (xs : List (List ℕ))
     → find (λ f. test f.0 f.1) (enumerate_from n (x ∷ xs)) ≡ None
     → (test n x ≡ false) × (find (λ f. test f.0 f.1) (enumerate_from (n + 1) xs) ≡ None)
@@ -46,7 +46,7 @@ first_fails test n x xs none =
       | inr fails ↦ (fails, rw fails at none)
     ]
 
--- so it holds of no field
+-- therefore no field passes it
 none_from : (test : ℕ → List ℕ → Bool) (n : ℕ) (fields : List (List ℕ)) → find (λ f. test f.0 f.1) (enumerate_from n fields) ≡ None
     → (k : ℕ) → k < length fields → test (n + k) (get_or fields k []) ≡ false
 none_from test n [] none k inside = absurd (omega (arith, inside))
@@ -66,16 +66,16 @@ at_quantity names j = grind (arith, common_steps)
 
 -- ---- trades
 
--- the field in the place of a contract is a name, if it is no bad one
+-- the field of a contract is a name, if it is not a bad name
 named : (w : Word) (j : ℕ) (text : List ℕ) → is_bad_name w (names_of w + 2 + 2 * j) text ≡ false → is_name text ≡ true
 named w j text good = not-true (is_name text) (rw (at_contract (names_of w) j) at good)
 
--- the field in the place of a quantity is in its range, if it is not out of range
+-- the field of a quantity is in range, if it is not out of range
 in_range : (w : Word) (j : ℕ) (text : List ℕ) → is_out_of_range w (names_of w + 3 + 2 * j) text ≡ false
     → is_quantity (unwrap_or (whole_number text) (pos 0)) ≡ true
 in_range w j text good = not-true _ (rw (at_quantity (names_of w) j) at good)
 
--- contracts that are no bad names and quantities that are not out of range are trades
+-- contracts that are not bad names and quantities that are not out of range are trades
 are_trades : (w : Word) (j : ℕ) (fields : List (List ℕ))
     → ((k : ℕ) → k < length fields → is_bad_name w (names_of w + 2 + 2 * j + k) (get_or fields k []) ≡ false)
     → ((k : ℕ) → k < length fields → is_out_of_range w (names_of w + 2 + 2 * j + k) (get_or fields k []) ≡ false)
@@ -93,7 +93,7 @@ are_trades w j (contract ∷ quantity ∷ rest) names ranges =
           (λ k inside. rw (later k) at (ranges (suc (suc k)) (omega (arith, inside)))),
     )
 
--- a test that finds nothing holds of no field behind the names
+-- if no field passes a test, no field after the names does
 none_behind : (test : ℕ → List ℕ → Bool) (names : ℕ) (fields : List (List ℕ)) → field_where test fields ≡ None
     → (k : ℕ) → k < length (drop (names + 1) fields) → test (names + 2 + 2 * 0 + k) (get_or (drop (names + 1) fields) k []) ≡ false
 none_behind test names fields none k inside =
@@ -105,7 +105,7 @@ none_behind test names fields none k inside =
     get_or-drop 1 fields (names + k) [] ∙ rw place (sym (get_or-drop (names + 1) fields k [])) in
     rw (same, number) at (none_from test 2 (drop 1 fields) (none_found (λ f. f.0) _ none) (names + k) within)
 
--- the fields of a request without a fault are trades behind its names
+-- the fields after the names of a request without a fault are trades
 pub trades_behind_names : (w : Word) (fields : List (List ℕ)) → form_fault w fields ≡ None → AreTrades (drop (names_of w + 1) fields)
 trades_behind_names w fields free =
     let names = no_first (field_where (is_bad_name w) fields) fault.BadName _ free in
@@ -116,7 +116,7 @@ trades_behind_names w fields free =
     (none_behind (is_bad_name w) (names_of w) fields names)
     (none_behind (is_out_of_range w) (names_of w) fields ranges)
 
--- the first field behind the word of a request without a fault is a name, if it is no quantity
+-- the first field after the word of a request without a fault is a name, if it is not a quantity
 pub first_named : (w : Word) (first account : List ℕ) (rest : List (List ℕ)) → form_fault w (first ∷ account ∷ rest) ≡ None
     → is_quantity_field (names_of w) 2 ≡ false → is_name account ≡ true
 first_named w first account rest free number =
@@ -124,7 +124,7 @@ first_named w first account rest free number =
     let good = (first_fails (is_bad_name w) 2 account rest (none_found (λ f. f.0) _ names)).0 in
     not-true (is_name account) (rw number at good)
 
--- a word that is not SET has its request by its fields
+-- a line whose word is not SET is read by its fields
 pub by_fields : (w : Word) (line : List ℕ) → w ≢ word.Set → request_with (Some w) line ≡ request_by w (fields_of line)
 by_fields word.Margin line other = refl
 by_fields word.Explain line other = refl
@@ -133,7 +133,7 @@ by_fields word.Fill line other = refl
 by_fields word.Set line other = absurd (other refl)
 by_fields word.Positions line other = refl
 
--- a line that is not too long asks for what its word says
+-- a line that is not too long is read by its word
 pub by_word : (line : List ℕ) (word : Option Word) → length line ≤ MAX_LINE → word ≡ word_named (text_at (fields_of line) 0)
     → request_of line ≡ request_with word line
 unfolding request_of

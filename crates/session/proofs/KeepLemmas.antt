@@ -1,4 +1,4 @@
--- What fills and other sets keep of a state, all requests keep.
+-- An invariant of a state that fills and SET requests keep is kept by all requests.
 use Rattle.std.proofs.Common.{◌≡◌, ◌<◌, ℕ, Bool, true, false, List, [], ◌∷◌, length, map}
 use Rattle.std.proofs.Common.{Option, Some, None, Result, Ok, Err, refl, sym, subst, arith}
 use Rattle.std.specs.Prelude.{if◌then◌else◌}
@@ -24,7 +24,7 @@ use Rattle.session.specs.Refusals.{Refused}
 use Rattle.session.specs.Refusals as refused
 use Rattle.session.proofs.BookLemmas.{HasTrades, filled_is, lines_stay, request_has, try_stays, unchanged_stays}
 
--- the state behind trades of an account
+-- the state after trades of an account
 abbrev pub state_filled : State → List ℕ → List Trade → State
 state_filled s account trades = record {
   tables = s.tables;
@@ -52,7 +52,7 @@ module _ (P : State → Type 0)
       let is = filled_is s account (u ∷ us) a e in
       subst P (sym is.state) (fill_keeps s account u us named is.place is.none kept)
 
-  -- ---- another set
+  -- ---- another parameter set
 
   tables_keep : (s : State) (params : List ℕ) (t : AcceptedTables) → accepted_of params ≡ Ok t → P s
       → (o : Option PositionRecord) (a : Answered) → under_tables s t o ≡ Ok a → P a.state
@@ -113,7 +113,7 @@ module _ (P : State → Type 0)
       by (Err f) e = kept
       by (Ok a) e = asked_of (request_on turn.request) refl a turn.is_out_of_memory e
 
-  -- what holds of a state holds behind requests
+  -- an invariant of a state is an invariant after requests
   pub turns_keep : (turns : List Turn) (s : State) → P s → P (state_behind s turns)
   turns_keep [] s kept = kept
   turns_keep (turn ∷ turns) s kept = turns_keep turns (state_after s (answer_of s turn)) (turn_keeps s turn kept)

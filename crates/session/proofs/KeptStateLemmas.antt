@@ -1,4 +1,4 @@
--- What a session keeps of its state: an opened state has it, and all requests keep it.
+-- The invariant of a session's state: it holds when the session is opened, and all requests keep it.
 use Rattle.std.proofs.Common.{◌≡◌, ◌∙◌, ℕ, ◌+◌, ◌≤◌, Bool, true, false, cond, not, ◌&&◌, ◌||◌, List, [], ◌∷◌, length, map, filter}
 use Rattle.std.proofs.Common.{Option, Some, None, Result, Ok, Err, refl, sym, ap, subst, arith}
 use Rattle.std.specs.Prelude.{ℤ, ◌+ℤ◌, bytes_eq, is_some, nat_le}
@@ -50,16 +50,16 @@ pub weaker : {X : Type 0} (P Q : X → Type 0) → ((x : X) → P x → Q x) →
 weaker P Q f [] all = tt
 weaker P Q f (x ∷ xs) all = (f x all.0, weaker P Q f xs all.1)
 
--- ---- holdings by their numbers
+-- ---- holdings by contract index
 
--- what is held by nets is in the order of contracts
+-- holdings computed from nets are in the order of contracts
 pub numbered_held : (contracts : List Contract) (net : ℕ → Contract → ℤ)
     → by_number contracts (held_of_all net 0 contracts) ≡ held_of_all net 0 contracts
 numbered_held contracts net =
     ap (filter is_held) (same_numbered (λ k x. net_among (held_of_all net 0 contracts) k) net 0 contracts
     (λ k x e. net_among_all net 0 k (0 + k) x contracts e refl))
 
--- and is of contracts that there are
+-- and have known contracts
 pub numbered_fit : (contracts : List Contract) (holdings : List Holding) → by_number contracts holdings ≡ holdings
     → fits (length contracts) holdings ≡ true
 numbered_fit contracts holdings is =
@@ -69,7 +69,7 @@ numbered_fit contracts holdings is =
 -- ---- accounts
 
 module _ (p : AccountHoldings) where
-  -- the accounts with one that is kept
+  -- the accounts with one more kept account
   accounts_kept : (contracts : List Contract) (ps : List AccountHoldings) → IsKeptAccount contracts p
       → AllByRecursion (IsKeptAccount contracts) ps → AllByRecursion (IsKeptAccount contracts) (with_account ps p)
   accounts_kept contracts [] kept all = (kept, tt)
@@ -93,7 +93,7 @@ module _ (p : AccountHoldings) where
       by true more = (other, all.1)
       by false more = (all.0, more)
 
-  -- no account is there twice with one that takes its place
+  -- accounts stay distinct when one is replaced or appended
   once_with : (ps : List AccountHoldings) → AreOnce ps → AreOnce (with_account ps p)
   unfolding IsDistinct
   once_with [] once = (tt, tt)
@@ -106,7 +106,7 @@ module _ (p : AccountHoldings) where
           (subst (λ n. AllByRecursion (λ y. bytes_eq n y ≡ false) (map (λ (r : AccountHoldings). r.account) ps)) (sym name) once.0, once.1)
       by false e more = (others_with q.account ps (name_flip q.account p.account ∙ e) once.0, more)
 
-  -- one account more at most, and no more if one has the name
+  -- there is at most one more account, and no more if one has the name
   count_with : (ps : List AccountHoldings) → length (with_account ps p) ≤ length ps + 1
   count_with [] = omega arith
   count_with (q ∷ ps) = by (bytes_eq p.account q.account) (count_with ps)
@@ -131,7 +131,7 @@ module _ (p : AccountHoldings) where
           subst (λ b. length (cond b (p ∷ ps) (q ∷ with_account ps p)) ≤ length (q ∷ ps)) (sym (name_flip p.account q.account ∙ e))
           (omega (arith, rest))
 
--- an account that has its place is not one too many
+-- an account for which there is room is not one too many
 few_with : (s : State) (p : AccountHoldings) → has_no_place s p.account ≡ false → length s.accounts ≤ MAX_ACCOUNTS
     → length (with_account s.accounts p) ≤ MAX_ACCOUNTS
 few_with s p place few = by (is_some (account_named s.accounts p.account)) refl place
@@ -144,7 +144,7 @@ few_with s p place few = by (is_some (account_named s.accounts p.account)) refl 
         let more = count_with p s.accounts in
         omega (arith, fewer, more)
 
--- ---- a state behind a FILL
+-- ---- the state after a FILL
 
 module _ (s : State) (account : List ℕ) (u : Trade) (us : List Trade) where
   abbrev records : List OrderRecord
@@ -153,7 +153,7 @@ module _ (s : State) (account : List ℕ) (u : Trade) (us : List Trade) where
   abbrev after : AccountHoldings
   after = (tried_order s.tables.contracts s.accounts records account).after
 
-  -- it keeps what it has
+  -- it keeps the invariant
   fill_keeps : is_name account ≡ true → has_no_place s account ≡ false
       → order_bind_fault s.tables.contracts s.accounts records ≡ None → IsKeptState s → IsKeptState (state_filled s account (u ∷ us))
   fill_keeps named place none kept =
@@ -176,7 +176,7 @@ module _ (s : State) (account : List ℕ) (u : Trade) (us : List Trade) where
         accounts = accounts_kept after s.tables.contracts s.accounts one kept.accounts;
       }
 
--- ---- a state under another set
+-- ---- the state under another parameter set
 
 -- the accounts have the same names
 names_under : (old new : List Contract) (ps : List AccountHoldings)
@@ -198,7 +198,7 @@ module _ (old new : List Contract) (apart : has_repeat (λ x y. bytes_eq x.id y.
     under_kept ps all.1,
   )
 
--- it keeps what it has, too
+-- it keeps the invariant, too
 set_keeps : (s : State) (params : List ℕ) (t : AcceptedTables) → accepted_of params ≡ Ok t → IsKeptState s → IsKeptState (state_under s t)
 set_keeps s params t accepted kept =
     let ids = accepted_ids params t accepted in
@@ -212,7 +212,7 @@ set_keeps s params t accepted kept =
 
 -- ---- an opened state
 
--- a name that is none of these differs from each
+-- a name that is not in a list differs from each name in it
 none_alike : (name : List ℕ) (names : List (List ℕ)) → list_any (bytes_eq name) names ≡ false
     → AllByRecursion (λ y. bytes_eq name y ≡ false) names
 none_alike name [] none = tt
@@ -227,7 +227,7 @@ once_of (n ∷ names) apart =
     let parts = or_parts (list_any (bytes_eq n) names) (has_repeat bytes_eq names) apart in
     (none_alike n names parts.0, once_of names parts.1)
 
--- a name among names has what all of them have
+-- an element of a list of valid names is a valid name
 named_among : (names : List (List ℕ)) → AllByRecursion (λ n. is_name n ≡ true) names → (name : List ℕ) → is_among names name ≡ true
     → is_name name ≡ true
 named_among [] all name among = cc
@@ -245,7 +245,7 @@ named_records (p ∷ ps) all = (all.0, named_records ps all.1)
 
 module _ (contracts : List Contract) (positions : List PositionRecord) (none : bind_fault contracts positions ≡ None)
     (named : AllByRecursion (λ p. is_name p.account ≡ true) positions) where
-  -- an account with what it holds by the positions
+  -- an account with its holdings by the positions
   abbrev held_as : List ℕ → AccountHoldings
   held_as name = record { account = name; holdings = holdings_of contracts positions name }
 
@@ -272,7 +272,7 @@ module _ (contracts : List Contract) (positions : List PositionRecord) (none : b
   all_bound [] among = tt
   all_bound (n ∷ names) among = (one_bound n among.0, all_bound names among.1)
 
--- each of some names is among them
+-- names that are in a list are in a longer one
 among_more : (x : List ℕ) (xs names : List (List ℕ)) → AllByRecursion (λ n. is_among xs n ≡ true) names
     → AllByRecursion (λ n. is_among (x ∷ xs) n ≡ true) names
 among_more x xs names all =
@@ -291,7 +291,7 @@ distinct_among names =
     weaker (λ n. is_among (distinct names) n ≡ true) (λ n. is_among names n ≡ true)
     (λ n e. sym (distinct_same names n) ∙ e) (distinct names) (each_among (distinct names))
 
--- positions that have accounts have no fault, and these are the accounts
+-- positions that are bound to accounts have no fault, and their portfolios are these accounts
 bound_are : (t : AcceptedTables) (positions : List PositionRecord) (accounts : List AccountHoldings)
     → portfolios_under t positions ≡ Ok accounts
     → (bind_fault t.contracts positions ≡ None) × (portfolios_of t.contracts positions ≡ accounts)
@@ -304,7 +304,7 @@ bound_are t positions accounts e = by (bind_fault t.contracts positions) refl e
     by (Some f) is e = cc
     by None is e = (is, cc)
 
--- accounts of a read position file
+-- the accounts of a position file
 bound_keeps : (params positions : List ℕ) (t : AcceptedTables) (records : List PositionRecord) (accounts : List AccountHoldings)
     → accepted_of params ≡ Ok t → positions_of positions ≡ Ok records → portfolios_under t records ≡ Ok accounts
     → IsKeptState (record { tables = t; accounts = accounts })
@@ -352,9 +352,9 @@ opened_keeps params positions s e = by (accepted_of params) refl e
                 let state : record { tables = t; accounts = accounts } ≡ s = cc in
                 subst IsKeptState state (bound_keeps params positions t records accounts is read found)
 
--- ---- behind all requests
+-- ---- the state after all requests
 
--- a state that a session comes to
+-- a state that a session reaches
 pub kept_behind : (params positions : List ℕ) (s : State) (turns : List Turn) → opened params positions ≡ Ok s
     → IsKeptState (state_behind s turns)
 kept_behind params positions s turns begun = turns_keep IsKeptState fill_keeps set_keeps turns s (opened_keeps params positions s begun)

@@ -1,4 +1,5 @@
--- The fault of what an account held under a set that lacks a contract, and that there is none if it lacks none.
+-- The fault of an account's holdings under a parameter set that lacks one of their contracts, and no fault if it lacks
+-- none.
 use Rattle.std.proofs.Common.{◌≡◌, ◌∙◌, ℕ, suc, zero, ◌+◌, ◌-◌, ◌<◌, ◌≤◌, Bool, true, false, cond, not, ◌||◌, List, [], ◌∷◌, ◌++◌}
 use Rattle.std.proofs.Common.{length, map, filter, Option, Some, None, slice_get, refl, sym, ap, subst, arith}
 use Rattle.std.specs.Prelude.{⊤, All, MatchBool, bytes_eq, find, nat_abs, nat_lt, option_map, unwrap_or}
@@ -73,7 +74,7 @@ module _ (old new : List Contract) (account : List ℕ) where
   abbrev test : List OrderRecord → OrderRecord → Option (ℕ → OrderBindFault)
   test earlier r = cond (foreign r) (Some (λ at. fault.UnknownContract at r.order)) None
 
-  -- what is found of holdings behind so many records
+  -- the fault found for holdings after this many records
   abbrev Found : ℕ → List Holding → Option OrderBindFault → Type 0
   Found n hs None = find (is_unknown new) (held hs) ≡ None
   Found n hs (Some (fault.UnknownContract at order)) =
@@ -128,7 +129,7 @@ module _ (old new : List Contract) (account : List ℕ) where
           (found_later (length earlier) h hs (first_fault_after test (earlier ++ r ∷ []) (records hs)) e
           (subst (λ n. Found n hs (first_fault_after test (earlier ++ r ∷ []) (records hs))) size more))
 
-  -- ---- what is refused
+  -- ---- the refusal
 
   abbrev lost_by : PositionRecord → Refused
   lost_by p = refused.Lost p.account p.contract
@@ -146,9 +147,9 @@ module _ (old new : List Contract) (account : List ℕ) where
   loss_memory trades (fault.TooManyHeld at order) memory = refl
   loss_memory trades fault.OutOfMemory memory = refl
 
-  -- ---- what the account comes to hold
+  -- ---- the new holdings of the account
 
-  -- the records of the one order are the records of what was held
+  -- the records of the one order are the records of the holdings
   positions_are : (hs : List Holding) → positions_of_order (records hs) account ≡ held hs
   positions_are [] = refl
   positions_are (h ∷ hs) =
@@ -194,7 +195,7 @@ module _ (old new : List Contract) (account : List ℕ) where
           ap (λ b. b || list_any (λ r. nat_lt MAX_HELD (length (holdings_after new [] (records (h ∷ hs)) r.order))) (records xs))
           (le-ltb MAX_HELD (length (holdings_after new [] (records (h ∷ hs)) account)) after_holds.few) ∙ none_many xs
 
-      -- the one fault that there may be is an unknown contract
+      -- the only possible fault is an unknown contract
       pub fault_is : order_bind_fault new [] (records (h ∷ hs)) ≡ first_fault_after test [] (records (h ∷ hs))
       unfolding order_bind_fault
       fault_is = by (first_fault_after test [] (records (h ∷ hs))) refl
@@ -215,7 +216,7 @@ module _ (old new : List Contract) (account : List ℕ) where
       found : Found 0 (h ∷ hs) (order_bind_fault new [] (records (h ∷ hs)))
       found = subst (Found 0 (h ∷ hs)) (sym fault_is) (found_after [] (h ∷ hs))
 
-      -- if there is none, the set has all contracts that are held
+      -- if there is none, the parameter set has all held contracts
       pub none_lost : order_bind_fault new [] (records (h ∷ hs)) ≡ None → find (is_unknown new) (held (h ∷ hs)) ≡ None
       none_lost e = subst (Found 0 (h ∷ hs)) e found
 
@@ -249,7 +250,7 @@ module _ (old new : List Contract) (account : List ℕ) where
       found_lost (fault.TooManyHeld at order) named f = absurd f
       found_lost fault.OutOfMemory named f = cc
 
-      -- and what is refused is the contract that is lost
+      -- and the refusal names the lost contract
       pub lost_if : (e : OrderBindFault) → MatchBool (is_bind_memory e) ⊤ (order_bind_fault new [] (records (h ∷ hs)) ≡ Some e)
           → (r : Refusal) → refused_by r ≡ loss account (held_trades old (h ∷ hs)) e
           → MatchBool (is_memory r) ⊤ (option_map lost_by (find (is_unknown new) (held (h ∷ hs))) ≡ Some (refused_by r))
@@ -263,7 +264,7 @@ module _ (old new : List Contract) (account : List ℕ) where
           by false named unfit =
               if_either (is_memory r) (found_lost e named (subst (Found 0 (h ∷ hs)) unfit found) ∙ ap Some (sym refuses))
 
--- what is held can be traded
+-- holdings can be traded
 pub trades_tradable : (old : List Contract) (hs : List Holding) → 0 < length hs → All (λ h. nat_abs h.net ≤ MAX_NET) hs
     → AreTradable (held_trades old hs)
 trades_tradable old hs some small = record {
@@ -273,7 +274,7 @@ trades_tradable old hs some small = record {
       (λ h le. omega (arith, le)) hs small);
 }
 
--- ---- holdings that are some
+-- ---- non-empty holdings
 
 module _ (old new : List Contract) (account : List ℕ) (apart : has_repeat (λ x y. bytes_eq x.id y.id) old ≡ false)
     (new_apart : has_repeat (λ x y. bytes_eq x.id y.id) new ≡ false) where
@@ -303,7 +304,7 @@ module _ (old new : List Contract) (account : List ℕ) (apart : has_repeat (λ 
   lost_some [] some fit portfolio e unfit r refuses = absurd (omega (arith, some))
   lost_some (h ∷ hs) some fit portfolio e unfit r refuses = lost_if old new account h hs apart new_apart fit portfolio e unfit r refuses
 
--- an account that holds nothing holds nothing under another set
+-- an account that holds nothing holds nothing under another parameter set
 none_of_none : (account : List ℕ) (a : ℕ) (xs : List Contract) → held_of_all (λ k x. net_of [] account x.id) a xs ≡ []
 none_of_none account a [] = refl
 none_of_none account a (x ∷ xs) = none_of_none account (a + 1) xs

@@ -1,4 +1,4 @@
--- Trades of one order that are bound on what its account holds.
+-- Trades of one order that are bound on the holdings of its account.
 use Rattle.std.proofs.Common.{◌≡◌, ◌∙◌, ◌<◌, ℕ, Bool, true, false, List, [], ◌∷◌, length, map, sym, ap, subst, arith, slice_get}
 use Rattle.std.proofs.Common.{Option, Some, None, Ok, Err, refl}
 use Rattle.std.specs.Prelude.{All, MatchBool, ⊤, bytes_eq, find, option_map, slice_index_or, unwrap_or}
@@ -18,7 +18,7 @@ use Rattle.whatif.specs.near.Numbers.{no_order, order_at}
 use Rattle.session.specs.Answers.{trade_records}
 use Rattle.session.proofs.TriedLemmas.{one_order}
 
--- what an account holds among portfolios fits, if they do
+-- the holdings of an account among portfolios fit, if the portfolios do
 among_fits : (n : ℕ) (own : List AccountHoldings) (name : List ℕ) → All (λ p. fits n p.holdings ≡ true) own
     → fits n (holdings_among own name) ≡ true
 among_fits n own name all = by (find (λ p. bytes_eq p.account name) own) refl
@@ -28,7 +28,7 @@ among_fits n own name all = by (find (λ p. bytes_eq p.account name) own) refl
     by None e = refl
     by (Some p) e = found_fits n name own p e all
 
--- what a call gives of the first order is in the order of number 0
+-- the holdings that a call returns for the first order are the holdings of the order at index 0
 pub first_before : (tried : TriedOrders) (hs : List Holding)
     → option_map (λ (o : TriedOrder). o.before.holdings) (slice_get tried.orders 0) ≡ Some hs → hs ≡ (order_at tried 0).before.holdings
 first_before tried hs is = by tried.orders is
@@ -51,7 +51,7 @@ module _ (contracts : List Contract) (own : List AccountHoldings) where
   abbrev found : List OrderRecord → TriedOrders
   found records = record { portfolios = own; orders = map (tried_order contracts own records) (orders_in records) }
 
-  -- orders are bound that have no fault
+  -- orders without a fault are bound
   pub bound_ok : (records : List OrderRecord) (tried : TriedOrders) → orders_bound contracts own records ≡ Ok tried
       → (order_bind_fault contracts own records ≡ None) × (found records ≡ tried)
   unfolding orders_bound
@@ -61,7 +61,7 @@ module _ (contracts : List Contract) (own : List AccountHoldings) where
       by (Some f) e = cc
       by None e = (cc, cc)
 
-  -- and if they have one it is that
+  -- and if they have a fault, it is the error
   bound_err : (records : List OrderRecord) (f : OrderBindFault) → orders_bound contracts own records ≡ Err f
       → order_bind_fault contracts own records ≡ Some f
   unfolding orders_bound
@@ -76,7 +76,7 @@ module _ (contracts : List Contract) (own : List AccountHoldings) where
   unfit_if records f true h = tt
   unfit_if records f false h = bound_err records f h
 
-  -- the trades of one order are bound as that one order
+  -- the trades of one order are bound as this one order
   module _ (order account : List ℕ) (trades : List Trade) (some : 0 < length trades) (tried : TriedOrders)
       (bound : orders_bound contracts own (trade_records order account trades) ≡ Ok tried) where
     one_named : (trades : List Trade) → 0 < length trades → orders_in (trade_records order account trades) ≡ order ∷ []
@@ -92,11 +92,11 @@ module _ (contracts : List Contract) (own : List AccountHoldings) where
     pub tried_some : 0 < length tried.orders
     tried_some = subst (λ orders. 0 < length orders) (sym one_tried) (omega arith)
 
-    -- they are the order of number 0
+    -- this is the order at index 0
     pub first_is : order_at tried 0 ≡ tried_order contracts own (trade_records order account trades) order
     first_is = ap (λ orders. slice_index_or orders 0 no_order) one_tried
 
-    -- what its account holds without it and with it fits
+    -- the holdings of its account without it and with it fit
     pub before_fits : All (λ p. fits (length contracts) p.holdings ≡ true) own
         → fits (length contracts) (order_at tried 0).before.holdings ≡ true
     before_fits all =
@@ -110,7 +110,7 @@ module _ (contracts : List Contract) (own : List AccountHoldings) where
         (holdings_with_fits contracts (holdings_before own records order) (positions_of_order records order)
         (account_of_order records order))
 
-    -- what a call gives of it with its trades
+    -- the holdings that a call returns for the account with the order's trades
     pub after_is : (after : AccountHoldings) → option_map (λ (o : TriedOrder). o.after) (slice_get tried.orders 0) ≡ Some after
         → after ≡ (tried_order contracts own (trade_records order account trades) order).after
     after_is after e = first_after tried after e ∙ ap (λ (o : TriedOrder). o.after) first_is

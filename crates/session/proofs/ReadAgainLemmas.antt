@@ -55,7 +55,7 @@ name_above : (bytes : List ℕ) → is_name bytes ≡ true → IsAbove bytes
 name_above bytes h =
     bytes_above bytes (and_parts (nat_le 1 (length bytes) && nat_le (length bytes) 16) (list_all is_name_byte bytes) h).1
 
--- a byte that ends no field and no line, and opens no quotes
+-- a byte that ends no field and no line, and opens no quote
 record Joins (b : ℕ) : Type 0 where
   comma : (b == 44) ≡ false
   carriage : (b == 13) ≡ false
@@ -72,7 +72,7 @@ joins b le = record {
 
 -- ---- fields and lines
 
--- such bytes join the field at hand
+-- such bytes are appended to the current field
 joined : (text rest : List ℕ) (fields : Fields) (field : List ℕ) → IsAbove text
     → rows state.InField fields field (text ++ rest) ≡ rows state.InField fields (field ++ text) rest
 joined [] rest fields field above = ap (λ f. rows state.InField fields f rest) (sym (append-nil field))
@@ -112,7 +112,7 @@ named_line (b ∷ name) rest is =
 
 -- ---- position records
 
--- what can be written and read again: names, and a quantity in its range
+-- a record that can be written and read again: its names are names, and its quantity is in range
 record IsWritable (p : PositionRecord) : Type 0 where
   account : is_name p.account ≡ true
   contract : is_name p.contract ≡ true
@@ -148,7 +148,7 @@ lines_read [] good = refl
 lines_read (p ∷ ps) good =
     line_read p (position_lines ps) good.0 ∙ ap (λ rest. fields_of_record p ∷ rest) (lines_read ps good.1)
 
--- bytes that begin with a name begin with no mark
+-- bytes that begin with a name do not begin with a byte order mark
 unmarked : (name rest : List ℕ) → is_name name ≡ true → strip_bom (name ++ rest) ≡ name ++ rest
 unfolding strip_bom
 unmarked [] rest is = cc
@@ -180,12 +180,12 @@ records_read (p ∷ ps) good =
 
 -- ---- no fault
 
--- a number of at most this size is in the range
+-- a number of at most this size is in range
 within : (h : ℕ) (z : ℤ) → nat_abs z ≤ suc h → is_within (negsuc h) (pos (suc h)) (Some z) ≡ true
 within h (pos n) le = le-leb n (suc h) le
 within h (negsuc n) le = (let less : n ≤ h = omega (arith, le) in rw (le-leb n h less) refl)
 
--- the fields of a record have no fault, and say the record
+-- the fields of a record have no fault, and are read as the record
 record_free : (p : PositionRecord) → IsWritable p → record_fault [] (fields_of_record p) ≡ None
 record_free p good =
     let small = good.small in
@@ -229,12 +229,12 @@ all_records (p ∷ ps) good =
     let rest = all_records ps good.1 in
     λ i. one i ++ rest i
 
--- records one by one are these records
+-- pieces of one record each are read together as these records
 singles : (ps : List PositionRecord) → records_together (map (λ p. p ∷ []) ps) ≡ ps
 singles [] = refl
 singles (p ∷ ps) = ap (λ rest. p ∷ rest) (singles ps)
 
--- the lines of records are read as these
+-- the lines of records are read as these records
 positions_again : (ps : List PositionRecord) → AllByRecursion IsWritable ps → length (accounts_of ps) ≤ MAX_ACCOUNTS
     → positions_of (position_lines ps) ≡ Ok ps
 positions_again ps good few =
@@ -246,7 +246,7 @@ positions_again ps good few =
 -- ---- the records of a kept state
 
 module _ (contracts : List Contract) (named : AllByRecursion (λ x. is_name x.id ≡ true) contracts) where
-  -- the contract of each number has a name
+  -- the contract at each index has a name
   named_at : (xs : List Contract) → AllByRecursion (λ x. is_name x.id ≡ true) xs → (k : ℕ) → k < length xs
       → is_name (unwrap_or (option_map (λ (x : Contract). x.id) (slice_get xs k)) []) ≡ true
   named_at [] all k lt = absurd (omega (arith, lt))
@@ -292,7 +292,7 @@ module _ (contracts : List Contract) (named : AllByRecursion (λ x. is_name x.id
   all_writable (p ∷ ps) kept =
       both_writable (account_records contracts p) (position_records contracts ps) (own_writable p kept.0) (all_writable ps kept.1)
 
--- what POSITIONS answers in a kept state is read as its records
+-- the answer to POSITIONS in a kept state is read as its records
 pub records_again : (s : State) → IsKeptState s → (0 < length s.tables.contracts) ⊎ (s.accounts ≡ [])
     → positions_of (position_lines (position_records s.tables.contracts s.accounts))
     ≡ Ok (position_records s.tables.contracts s.accounts)
@@ -309,7 +309,7 @@ records_again s kept some =
     by (inr none) =
         subst (λ ps. length (accounts_of (position_records s.tables.contracts ps)) ≤ MAX_ACCOUNTS) (sym none) (omega arith)
 
--- so a session over what POSITIONS answers opens with the same state
+-- therefore a session over the answer to POSITIONS opens with the same state
 pub opened_again : (params positions current : List ℕ) (s : State) (turns : List Turn) → opened params positions ≡ Ok s
     → accepted_of current ≡ Ok (state_behind s turns).tables
     → (0 < length (state_behind s turns).tables.contracts) ⊎ ((state_behind s turns).accounts ≡ [])
@@ -321,7 +321,7 @@ opened_again params positions current s turns begun accepted some =
     let kept = kept_behind params positions s turns begun in
     rw (accepted, records_again next kept some, bound_again next kept some) refl
 
--- and the statement of what POSITIONS answers is what MARGIN answers
+-- and the statement of the answer to POSITIONS is the answer to MARGIN
 pub answers_again : (params positions current : List ℕ) (s : State) (turns : List Turn) → opened params positions ≡ Ok s
     → accepted_of current ≡ Ok (state_behind s turns).tables
     → (0 < length (state_behind s turns).tables.contracts) ⊎ ((state_behind s turns).accounts ≡ [])

@@ -1,4 +1,5 @@
--- What a read position file says: of names, and of no more accounts than there may be. And what accepted tables are of.
+-- A position file that can be read has valid names and not too many accounts, and accepted tables have distinct
+-- contract ids.
 use Rattle.std.proofs.Common.{◌≡◌, ◌∙◌, ℕ, ◌≤◌, Bool, true, false, cond, not, ◌&&◌, ◌==◌, List, [], ◌∷◌, ◌++◌, length, map}
 use Rattle.std.proofs.Common.{Option, Some, None, Result, Ok, Err, refl, sym, ap, subst, arith, append_assoc}
 use Rattle.std.specs.Prelude.{bytes_eq, filter_map, is_none}
@@ -36,7 +37,7 @@ use Rattle.statement_text.specs.declared.faults.SpanFault.TheVariants as fault
 
 -- ---- accepted tables
 
--- no two contracts have one id, and each id is a name
+-- contract ids are distinct, and each id is a name
 pub record AreIds (contracts : List Contract) : Type 0 where
   pub apart : has_repeat (λ x y. bytes_eq x.id y.id) contracts ≡ false
   pub named : AllByRecursion (λ x. is_name x.id ≡ true) contracts
@@ -78,7 +79,7 @@ checked_ids records t read e = by (check_fault records) refl e
         let same : tables_of records ≡ t = cc in
         subst (λ (tables : AcceptedTables). AreIds tables.contracts) same (tables_ids records read (rules_kept records is))
 
--- so it is with accepted tables
+-- the same for accepted tables
 pub accepted_ids : (params : List ℕ) (t : AcceptedTables) → accepted_of params ≡ Ok t → AreIds t.contracts
 unfolding accepted_of
 accepted_ids params t e = by (params_of params) refl e
@@ -91,7 +92,7 @@ accepted_ids params t e = by (params_of params) refl e
 
 -- ---- position records
 
--- the account of each record is a name, and they have no more accounts than there may be
+-- the account of each record is a name, and there are not too many accounts
 pub record AreRead (records : List PositionRecord) : Type 0 where
   pub named : AllByRecursion (λ p. is_name p.account ≡ true) records
   pub few : length (distinct (map (λ p. p.account) records)) ≤ MAX_ACCOUNTS
@@ -99,7 +100,7 @@ pub record AreRead (records : List PositionRecord) : Type 0 where
 abbrev names_in : List Fields → List (List ℕ)
 names_in rs = map (λ r. text_at r 0) rs
 
--- a record without one of Q1 to Q4 has a name for its account
+-- a record without any of Q1 to Q4 has a name as its account
 formed_named : (r : Fields) → is_formed r ≡ true → is_name (text_at r 0) ≡ true
 formed_named [] formed = cc
 formed_named (account ∷ r) formed = by (length (account ∷ r) == 3) (is_name account) _ _ _ formed
@@ -112,7 +113,7 @@ formed_named (account ∷ r) formed = by (length (account ∷ r) == 3) (is_name 
     by true true more numbers ranges e = refl
     by true false more numbers ranges e = cc
 
--- records without a fault have names for their accounts
+-- records without a fault have names as their accounts
 all_named : (before rs : List Fields) → IsFaultFree record_fault before rs
     → AllByRecursion (λ (p : PositionRecord). is_name p.account ≡ true) (map position_record rs)
 unfolding position_record
@@ -122,7 +123,7 @@ all_named before (r ∷ rs) free = (
   all_named (before ++ r ∷ []) rs free.1,
 )
 
--- faults that do not hold pass over to those behind them
+-- if no fault of a list applies, the first fault of a longer list is the first of the remainder
 first_append : {F : Type 0} (xs ys : List (Bool × F)) → first_that_holds xs ≡ None → first_that_holds (xs ++ ys) ≡ first_that_holds ys
 first_append [] ys e = refl
 first_append ((true, f) ∷ xs) ys e = cc
@@ -160,7 +161,7 @@ within_limit before r free =
     last true e = cc
     last false e = refl
 
--- records without a fault have no more accounts than there may be
+-- records without a fault do not have too many accounts
 all_few : (before rs : List Fields) → IsFaultFree fault_where_all_count before rs → length (distinct (names_in before)) ≤ MAX_ACCOUNTS
     → length (distinct (names_in (before ++ rs))) ≤ MAX_ACCOUNTS
 all_few before [] free few = subst (λ zs. length (distinct (names_in zs)) ≤ MAX_ACCOUNTS) (sym (append-nil before)) few
@@ -173,7 +174,7 @@ unfolding position_record
 accounts_same [] = refl
 accounts_same (r ∷ rs) = ap (λ names. text_at r 0 ∷ names) (accounts_same rs)
 
--- so it is with the records of a position file
+-- the same for the records of a position file
 pub positions_read : (bytes : List ℕ) (records : List PositionRecord) → positions_of bytes ≡ Ok records → AreRead records
 unfolding positions_of position_faults
 positions_read bytes records e =

@@ -1,4 +1,4 @@
--- What a session opens with, what its accounts keep, and why another set is refused.
+-- The state that a session opens with, the invariant of its accounts, and why another parameter set is rejected.
 use Rattle.std.proofs.Common.{◌≡◌, ℕ, Bool, true, false, List, [], ◌∷◌, Ok, Err, Option, Some, None, refl}
 use Rattle.std.specs.Prelude.{⊤, All, MatchBool, bytes_eq, if◌then◌else◌, option_map}
 use Rattle.std.proofs.lemmas.List.Elements.{All-cons, All-head, All-tail}
@@ -21,7 +21,7 @@ use Rattle.statement_text.proofs.FaultLemmas.{fault_stays}
 -- ---- the opening
 
 module _ (params positions : List ℕ) where
-  -- two accepted files open a state of their tables and portfolios
+  -- two accepted files open a state with their tables and portfolios
   pub accepted_opened : (t : AcceptedTables) (records : List PositionRecord) (portfolios : List AccountHoldings)
       → accepted_of params ≡ Ok t → positions_of positions ≡ Ok records → portfolios_under t records ≡ Ok portfolios
       → opened params positions ≡ Ok (record { tables = t; accounts = portfolios })
@@ -38,7 +38,8 @@ module _ (params positions : List ℕ) where
 
 -- ---- accounts
 
--- What holds of each account, and of a portfolio, holds of each account once one of them holds what the portfolio has.
+-- A property of a portfolio and of each account is a property of each account after the portfolio is put in its
+-- account.
 pub all_with_account : (P : AccountHoldings → Type 0) (accounts : List AccountHoldings) (p : AccountHoldings)
     → P p → All P accounts → All P (with_account accounts p)
 all_with_account P [] p here all = All-cons P p [] here all
@@ -48,14 +49,14 @@ all_with_account P (q ∷ rest) p here all =
       by_name true more = All-cons P p rest here (All-tail P q rest all)
       by_name false more = All-cons P q (with_account rest p) (All-head P q rest all) more
 
--- ---- another set
+-- ---- another parameter set
 
--- what follows from a fact follows where the fact holds in one case alone
+-- if P implies Q, then "P unless b" implies "Q unless b"
 if_not : (b : Bool) (P Q : Type 0) → (P → Q) → MatchBool b ⊤ P → MatchBool b ⊤ Q
 if_not true P Q f h = h
 if_not false P Q f h = f h
 
--- a set that lacks the contract of a holding is refused for it
+-- a parameter set that lacks the contract of a holding is rejected
 is_refused : (s : State) (t : AcceptedTables) (held : Option PositionRecord) (r : Refusal)
     → option_map (λ h. refused.Lost h.account h.contract) held ≡ Some (refused_by r) → under_tables s t held ≡ Err (refused_by r)
 is_refused s t (Some h) r e = cc

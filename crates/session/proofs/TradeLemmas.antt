@@ -22,7 +22,7 @@ small (contract ∷ quantity ∷ rest) are =
     (record { contract = contract; quantity = unwrap_or (whole_number quantity) (pos 0) }) (trades_of rest)
     (few quantity are.1) (small rest are.2)
 
--- fields that are trades give trades that may be asked for
+-- fields that are trades give trades that can be bound
 pub tradable : (fields : List (List ℕ)) → AreTrades fields → 2 ≤ length fields → AreTradable (trades_of fields)
 tradable [] are some = absurd (omega (arith, some))
 tradable (contract ∷ []) are some = absurd (omega (arith, some))
@@ -38,7 +38,7 @@ both false b h = cc
 odd : (n : ℕ) → (n % 2 == 0) ≡ true → n ≡ 1 → ⊥
 odd n even one = let same : (1 % 2 == 0) ≡ true = rw one at even in true≢false (sym same)
 
--- so many names and trades are at least a contract and a quantity behind the word and the names
+-- if a request has trades, there are at least a contract and a quantity after the word and the names
 pub enough : (names n : ℕ) → has_trades names n ≡ true → names + 3 ≤ n
 enough names n holds =
     let parts = both (nat_lt (names + 1) n && nat_le n (names + 1 + 2 * MAX_TRADES)) ((n - (names + 1)) % 2 == 0) holds in

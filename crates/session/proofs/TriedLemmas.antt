@@ -1,4 +1,4 @@
--- Trades evaluated on what their account holds, compared with all accounts.
+-- Trades evaluated on the holdings of their account, compared with the evaluation on all accounts.
 use Rattle.std.proofs.Common.{◌≡◌, ◌∙◌, ◌+◌, ◌∷◌, ◌++◌, ℕ, Bool, true, false, cond, not, ◌&&◌, List, [], length, map, filter, refl, sym, ap}
 use Rattle.std.proofs.Common.{Option, Some, None, bytes_eq}
 use Rattle.std.specs.Prelude.{find, if◌then◌else◌, nat_abs, nat_lt, option_map, unwrap_or}
@@ -21,7 +21,7 @@ use Rattle.binding.specs.declared.trades.Trade.{Trade}
 
 -- ---- faults of the same records
 
--- tests that agree on elements of a kind give the same faults of such elements
+-- tests that agree on a kind of elements give the same faults for such elements
 faults_agree : {A F : Type 0} (f g : List A → A → Option (ℕ → F)) (P : A → Type 0)
     → ((earlier : List A) (x : A) → P x → f earlier x ≡ g earlier x)
     → (earlier xs : List A) → AllByRecursion P xs → faults_after f earlier xs ≡ faults_after g earlier xs
@@ -44,7 +44,8 @@ module _ (contracts : List Contract) (over others_over : List ℕ → List ℕ �
   held_same : (earlier : List OrderRecord) (r : OrderRecord) → r.order ≡ order → many r.order ≡ others_many r.order
   held_same earlier r is = ap many is ∙ same_many ∙ sym (ap others_many is)
 
-  -- records of one order have the same faults, if its nets and its account's holdings are over the limits or not alike
+  -- records of one order have the same faults, if its nets and its account's holdings exceed the limits in the same
+  -- cases
   pub owner_agree : (all : List OrderRecord) → AllByRecursion (λ r. r.order ≡ order) all
       → owner_faults (λ r. r.order) (λ r. r.contract) fault.UnknownContract fault.NetOutOfRange fault.TooManyHeld contracts over many all
       ≡ owner_faults (λ r. r.order) (λ r. r.contract) fault.UnknownContract fault.NetOutOfRange fault.TooManyHeld contracts
@@ -85,7 +86,7 @@ module _ (contracts : List Contract) (over others_over : List ℕ → List ℕ �
 
 -- ---- one order
 
--- what is found again among what was found
+-- an element that was found is found again among the found ones
 find_own : {A : Type 0} (test : A → Bool) (xs : List A) → find test (option_to_list (find test xs)) ≡ find test xs
 find_own test [] = refl
 find_own test (x ∷ xs) = by (test x) refl (find_own test xs)
@@ -95,7 +96,7 @@ find_own test (x ∷ xs) = by (test x) refl (find_own test xs)
     by true t more = ap (λ b. cond b (Some x) None) t
     by false t more = more
 
--- an account holds the same by itself as among all accounts
+-- an account has the same holdings by itself as among all accounts
 own_holdings : (accounts : List AccountHoldings) (account : List ℕ)
     → holdings_among (option_to_list (account_named accounts account)) account ≡ holdings_among accounts account
 own_holdings accounts account =
@@ -146,7 +147,7 @@ module _ (order account : List ℕ) where
         ap (λ held. holdings_with contracts held (positions_of_order (trade_records order account (t ∷ trades)) order)
         (account_of_order (trade_records order account (t ∷ trades)) order)) same_before
 
-    -- the fault of trades is the same on what their account holds by itself
+    -- the fault of trades is the same if only their account is given
     pub same_fault : order_bind_fault contracts (option_to_list (account_named accounts account)) (trade_records order account (t ∷ trades))
         ≡ order_bind_fault contracts accounts (trade_records order account (t ∷ trades))
     unfolding order_bind_fault
@@ -163,7 +164,7 @@ module _ (order account : List ℕ) where
         (ap (λ held. nat_lt MAX_HELD (length held)) same_after)
         (trade_records order account (t ∷ trades)) (of_order (t ∷ trades)))
 
-    -- and so are what it holds before them and after them
+    -- and so are its holdings before and after them
     pub same_tried : tried_order contracts (option_to_list (account_named accounts account))
         (trade_records order account (t ∷ trades)) order
         ≡ tried_order contracts accounts (trade_records order account (t ∷ trades)) order

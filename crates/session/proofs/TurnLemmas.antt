@@ -1,4 +1,4 @@
--- One turn of a session: the file that it reads, its answer, and the state behind it.
+-- One turn of a session: the file that it reads, its answer, and the state after it.
 use Rattle.std.proofs.Common.{◌≡◌, ℕ, Bool, true, false, List, [], ◌∷◌, ◌++◌, Ok, Err, Option, Some, None, Result, map, refl, sym}
 use Rattle.std.proofs.Common.{◌∙◌, ap, arith, subst}
 use Rattle.std.specs.List.{cons_option}
@@ -46,7 +46,7 @@ module _ {S : Type 0} (known : List ℕ → Option File) (reads : S → List ℕ
         in_order = subst (λ files. ReadsAll reads before (map (λ f. (f.0, is_ok f.1)) files) after) e read.in_order;
       }
 
-  -- a turn that has no file reads none
+  -- a turn without a file reads none
   pub turn_reads_none : (request : Option (List ℕ)) (memory : Bool) → after ≡ before
       → AreFromSource known reads before (record { request = request; file = None; is_out_of_memory = memory } ∷ []) after
   turn_reads_none request memory is =
@@ -59,12 +59,12 @@ module _ {S : Type 0} (known : List ℕ → Option File) (reads : S → List ℕ
 
 -- ---- the answer of a turn
 
--- what an error does not rule out
+-- a property of a value applies if there is no error
 pub unless_err : {A E : Type 0} (r : Result A E) (P : Type 0) → OnOk r P → is_err r ≡ false → P
 unless_err (Ok x) P h ok = h
 unless_err (Err e) P h ok = cc
 
--- a line that is no request is refused for its fault
+-- a line that is not a request is rejected for its fault
 pub form_refused : (s : State) (file : Option File) (asked : Result Asked RequestFault) (e : RequestFault) (r : Refusal)
     → MatchBool (is_memory_fault e) (r ≡ refusal.Memory) (r ≡ refusal.Form e)
     → MatchBool (is_memory_fault e) ⊤ (asked ≡ Err e)
@@ -75,7 +75,7 @@ form_refused s file asked e r is fault = by_fault (is_memory_fault e) is fault w
   by_fault true is fault = rw is fault
   by_fault false is fault = rw (is, fault) refl
 
--- a refusal leaves the state as it is, and so does a growth of memory that is refused
+-- a refusal leaves the state unchanged, and so does an allocation failure
 refused_state : (s : State) (memory : Bool) (answer : Result Answered Refused) (r : Refusal)
     → MatchBool (is_memory r) ⊤ (answer ≡ Err (refused_by r)) → (memory ≡ false → is_memory r ≡ false)
     → s ≡ state_after s (if memory then Err refused.Memory else answer)
@@ -107,7 +107,7 @@ module _ {S : Type 0} (known : List ℕ → Option File) (reads : S → List ℕ
     answer = λ saved. rw is answer;
   }
 
-  -- a request that was refused
+  -- a request that was rejected
   pub turn_refused : (turn : Turn) (r : Refusal) → AreFromSource known reads before (turn ∷ []) after → next ≡ s
       → MatchBool (is_memory r) ⊤ (answer_on s turn.file (request_on turn.request) ≡ Err (refused_by r))
       → (turn.is_out_of_memory ≡ false → (is_memory r ≡ false) × (written ≡ line (refused_line n (refused_by r))))
@@ -120,7 +120,7 @@ module _ {S : Type 0} (known : List ℕ → Option File) (reads : S → List ℕ
         answer = λ saved. (spoken saved).1 ∙ refused_text n turn.is_out_of_memory answer r is (λ h. (spoken h).0) saved;
       }
 
-  -- a request that is too long was refused
+  -- a request that is too long was rejected
   pub turn_too_long : (memory : Bool) → after ≡ before → next ≡ s
       → (memory ≡ false → written ≡ line (refused_line n (refused.Form form.LineTooLong)))
       → IsTurn known reads before s n (record { request = None; file = None; is_out_of_memory = memory }) after next written

@@ -1,4 +1,4 @@
--- What a session answers to a request in a state, and the state behind the answer.
+-- The answer of a session to a request in a state, and the state after the answer.
 use Rattle.std.specs.Prelude.{ℕ, ◌+◌, ◌*◌, Bool, not, ◌&&◌, nat_le, if◌then◌else◌, List, length, map, bytes_eq}
 use Rattle.std.specs.Prelude.{codes, Option, Some, None, is_some, Result, Ok, Err}
 use Rattle.span_money.specs.LineFields.{line}
@@ -31,24 +31,24 @@ use Rattle.session.specs.Requests as asked
 use Rattle.binding.specs.declared.trades.Trade.{Trade}
 use Rattle.session.specs.declared.requests.Word.TheVariants as word
 
--- the state of a session: accepted tables, and its accounts with what they hold under them, in their order
+-- the state of a session: accepted tables, and the accounts with their holdings under these, in their order
 pub record State : Type 0 where
   pub tables : AcceptedTables
   pub accounts : List AccountHoldings
 
--- the state that two accepted files open, or the first fault of a statement of them
+-- the state that two accepted files open, or the first fault of their statement
 unfoldable pub opened : List ℕ → List ℕ → Result State SpanFault
 opened params positions =
     and_then same (accepted_of params) (λ tables.
     and_then fault.Positions (positions_of positions) (λ records.
     and_then same (portfolios_under tables records) (λ accounts. Ok (record { tables = tables; accounts = accounts }))))
 
--- an answer: its lines, and the state behind it
+-- an answer: its lines, and the state after it
 pub record Answered : Type 0 where
   pub lines : List ℕ
   pub state : State
 
--- lines that leave the state as it is
+-- lines that leave the state unchanged
 abbrev pub unchanged : State → List ℕ → Result Answered Refused
 unchanged s lines = Ok (record { lines = lines; state = s })
 
@@ -63,25 +63,27 @@ lines_of s text (Some p) = unchanged s (text s.tables p)
 abbrev pub trade_records : List ℕ → List ℕ → List Trade → List OrderRecord
 trade_records order account trades = map (trade_record order account) trades
 
--- trades evaluated on the accounts of a state, as the one order of an order file is, or their fault
+-- trades evaluated on the accounts of a state, like the only order of an order file, or their fault
 abbrev pub tried : State → List ℕ → List ℕ → List Trade → Result TriedOrder OrderBindFault
 tried s order account trades =
     ok_unless (order_bind_fault s.tables.contracts s.accounts (trade_records order account trades))
     (tried_order s.tables.contracts s.accounts (trade_records order account trades) order)
 
--- The refusal of trades that do not fit, if so many names stand in front of them. The fault has the number of a trade, from 1.
+-- The refusal of trades that do not fit, for a request with this many names before its trades. The fault has the number
+-- of a trade, from 1.
 abbrev pub unfit : ℕ → OrderBindFault → Refused
 unfit names (bind.UnknownContract at order) = refused.UnknownContract (names + 2 * at)
 unfit names (bind.NetOutOfRange at order) = refused.NetOutOfRange (names + 2 * at)
 unfit names (bind.TooManyHeld at order) = refused.TooManyHeld (names + 1)
 unfit names bind.OutOfMemory = refused.Memory
 
--- the answer to trades that fit, or the refusal of those that do not, if so many names stand in front of them
+-- the answer to trades that fit, or the refusal of trades that do not, for a request with this many names before its
+-- trades
 abbrev pub if_fit : ℕ → (TriedOrder → Answered) → Result TriedOrder OrderBindFault → Result Answered Refused
 if_fit names answer (Ok o) = Ok (answer o)
 if_fit names answer (Err e) = Err (unfit names e)
 
--- the answer to a TRY: the lines of the order, and the state as it is
+-- the answer to a TRY: the lines of the order; the state is unchanged
 abbrev pub tried_answer : State → TriedOrder → Answered
 tried_answer s o = record { lines = order_text s.tables o; state = s }
 
@@ -89,31 +91,32 @@ tried_answer s o = record { lines = order_text s.tables o; state = s }
 abbrev pub total_text : AcceptedTables → AccountHoldings → List ℕ
 total_text t p = line (total_line p.account t.set_id (total_numbers t (total_of t p) (option_value_of t p.holdings)))
 
--- trades that were done: the total of the account with them, and the account holds what it has with them
+-- the answer to trades that were done: the account's total after the trades, and a state in which it has its new
+-- holdings
 abbrev pub filled_answer : State → TriedOrder → Answered
 filled_answer s o = record {
   lines = total_text s.tables o.after;
   state = record { tables = s.tables; accounts = with_account s.accounts o.after };
 }
 
--- there is no place for an account of a name: it is not known, and there are as many as there may be
+-- there is no room for an account: it is not known, and there are as many accounts as the limit allows
 abbrev pub has_no_place : State → List ℕ → Bool
 has_no_place s account = not (is_some (account_named s.accounts account)) && nat_le MAX_ACCOUNTS (length s.accounts)
 
--- the answer to trades that were done; to bind them their order has the account's name
+-- the answer to trades that were done; they are bound as an order with the account's name
 abbrev pub fill_answer : State → List ℕ → List Trade → Result Answered Refused
 fill_answer s account trades =
     if has_no_place s account
     then Err refused.TooManyAccounts
     else if_fit (names_of word.Fill) (filled_answer s) (tried s account account trades)
 
--- ---- another set
+-- ---- another parameter set
 
--- the file of this name is the stream of requests
+-- this is the file name of the stream of requests
 abbrev pub is_stdin : List ℕ → Bool
 is_stdin name = bytes_eq name (codes "/dev/stdin")
 
--- accepted tables in place of those before, unless they lack the contract of a holding
+-- accepted tables that replace the earlier ones, unless they lack the contract of a holding
 abbrev pub under_tables : State → AcceptedTables → Option PositionRecord → Result Answered Refused
 under_tables s t (Some held) = Err (refused.Lost held.account held.contract)
 under_tables s t None = Ok (record {
@@ -126,24 +129,25 @@ abbrev pub under_accepted : State → Result AcceptedTables SpanFault → Result
 under_accepted s (Ok t) = under_tables s t (lost_record s.tables.contracts t.contracts s.accounts)
 under_accepted s (Err e) = Err (refused.Parameters e)
 
--- what a file gave of this name
+-- the answer for the file with this name, from the result of reading it
 abbrev pub under_file : State → List ℕ → File → Result Answered Refused
 under_file s name (Ok params) = under_accepted s (accepted_of params)
 under_file s name (Err read.OutOfMemory) = Err refused.Memory
 under_file s name (Err _) = Err (refused.File name)
 
--- what a file gave of this name, if it was asked for; a file that was not asked for wanted memory
+-- the answer for the file with this name, if it was asked for; if it was not, memory ran out
 abbrev pub under_asked : State → List ℕ → Option File → Result Answered Refused
 under_asked s name None = Err refused.Memory
 under_asked s name (Some file) = under_file s name file
 
--- the answer to a request for another set
+-- the answer to a request for another parameter set
 abbrev pub set_answer : State → List ℕ → Option File → Result Answered Refused
 set_answer s name file = if is_stdin name then Err (refused.File name) else under_asked s name file
 
 -- ---- all requests
 
--- The answer to a request in a state, or why it is refused. The file is what the file of a SET gave, if it was asked for.
+-- The answer to a request in a state, or why it is rejected. `file` is the result of reading the file of a SET, if it
+-- was asked for.
 unfoldable pub answer_to : State → Option File → Asked → Result Answered Refused
 answer_to s file asked.Margin = unchanged s (statement_text s.tables s.accounts)
 answer_to s file (asked.MarginOf account) = lines_of s row_text (account_named s.accounts account)

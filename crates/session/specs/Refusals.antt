@@ -1,4 +1,4 @@
--- Why a request is refused, and what the answer says of it.
+-- Why a request is rejected, and the text of the answer.
 use Rattle.std.specs.Prelude.{ℕ, List, ◌++◌, codes, decimal}
 use Rattle.statement_text.specs.FaultLines.{fault_text}
 use Rattle.statement_text.specs.declared.faults.SpanFault.{SpanFault}
@@ -7,9 +7,9 @@ use Rattle.session.specs.declared.faults.RequestFault.TheVariants as fault
 use Rattle.session.specs.declared.refusals.Refusal.{Refusal}
 use Rattle.session.specs.declared.refusals.Refusal.TheVariants as refusal
 
--- Why a request is refused: a fault of its line; an account that is not known; one account too many; a contract that the set does not have,
--- a net that would be out of range, or too many holdings, each with the number of a field; a fault of the file of a set; an account that
--- holds a contract which the file does not have; a file that cannot be read, with its name; out of memory.
+-- Why a request is rejected: a fault of its line; an unknown account; one account too many; an unknown contract, a net
+-- out of range, or too many holdings, each with the number of a field; a fault of the file of a parameter set; an
+-- account that holds a contract that the file lacks; a file that cannot be read, with its name; out of memory.
 pub data Refused : Type 0 where
   Form : RequestFault → Refused
   UnknownAccount : Refused
@@ -22,7 +22,7 @@ pub data Refused : Type 0 where
   File : List ℕ → Refused
   Memory : Refused
 
--- what is said of a fault of a line; the number of the field is 0 if no one field is at fault
+-- the text of a fault of a line; the field number is 0 if the fault is not in one field
 abbrev pub form_text : RequestFault → List ℕ
 form_text fault.LineTooLong = codes "request: X1 LineTooLong at field 0"
 form_text fault.UnknownRequest = codes "request: X2 UnknownRequest at field 1"
@@ -32,7 +32,7 @@ form_text (fault.BadNumber field) = codes "request: X5 BadNumber at field " ++ d
 form_text (fault.OutOfRange field) = codes "request: X6 OutOfRange at field " ++ decimal field
 form_text fault.OutOfMemory = codes "memory"
 
--- what is said of a refusal
+-- the text of a refusal
 abbrev pub refusal_text : Refused → List ℕ
 refusal_text (Form e) = form_text e
 refusal_text UnknownAccount = codes "request: E1 UnknownAccount at field 2"
@@ -45,7 +45,7 @@ refusal_text (Lost account contract) = codes "positions: B1 UnknownContract acco
 refusal_text (File name) = codes "file: " ++ name
 refusal_text Memory = codes "memory"
 
--- what a refusal of the library says
+-- the meaning of a refusal of the library
 abbrev pub refused_by : Refusal → Refused
 refused_by (refusal.Form e) = Form e
 refused_by refusal.UnknownAccount = UnknownAccount

@@ -1,4 +1,4 @@
--- What a line of a session asks for, or why it is refused.
+-- The request that a line of a session makes, or why the line is rejected.
 use Rattle.std.specs.Prelude.{◌<◌, ◌≤◌, ⊤, All}
 use Rattle.std.specs.Prelude.{ℕ, ◌+◌, ◌-◌, ◌*◌, ◌%◌, Bool, not, ◌&&◌, ◌||◌, ◌==◌, nat_le, nat_lt, if◌then◌else◌, false, true}
 use Rattle.std.specs.Prelude.{List, [], ◌∷◌, drop, length, map, find, codes, bytes_eq, ℤ, pos, nat_abs}
@@ -22,15 +22,15 @@ use Rattle.session.specs.declared.requests.TheConstants.{MAX_TRADES}
 
 -- ---- fields
 
--- the fields of a line: what stands between its commas
+-- the fields of a line: the bytes between its commas
 abbrev pub fields_of : List ℕ → List (List ℕ)
 fields_of line = slice_split (λ b. b == 44) line
 
--- the bytes that lent fields show
+-- the bytes of borrowed fields
 abbrev pub texts_of : List (Bor (List ℕ)) → List (List ℕ)
 texts_of fields = map (λ field. field.now) fields
 
--- the word that a field is
+-- the word that a field spells
 abbrev pub word_named : List ℕ → Option Word
 word_named field =
     if bytes_eq field (codes "MARGIN") then Some word.Margin
@@ -41,9 +41,9 @@ word_named field =
     else if bytes_eq field (codes "POSITIONS") then Some word.Positions
     else None
 
--- ---- what a request may have
+-- ---- the fields that a request may have
 
--- how many names stand between the word of a request and its contracts and quantities
+-- the number of names between the word of a request and its pairs of contract and quantity
 abbrev pub names_of : Word → ℕ
 names_of word.Margin = 1
 names_of word.Explain = 1
@@ -52,12 +52,13 @@ names_of word.Fill = 1
 names_of word.Set = 0
 names_of word.Positions = 0
 
--- a word, so many names, and behind them contracts that each have a quantity, at least one and not too many
+-- this number of fields is a word, `names` names, and pairs of contract and quantity, at least one and not too many
 abbrev pub has_trades : ℕ → ℕ → Bool
 has_trades names count =
     nat_lt (names + 1) count && nat_le count (names + 1 + 2 * MAX_TRADES) && ((count - (names + 1)) % 2 == 0)
 
--- a request of the word may have so many fields, the word among them; what a SET may have is said of its file
+-- a request with the word may have this number of fields, including the word; the fields of a SET are checked with its
+-- file name
 abbrev pub may_have : Word → ℕ → Bool
 may_have word.Margin count = count == 1 || (count == 2)
 may_have word.Explain count = count == 2
@@ -66,7 +67,7 @@ may_have word.Fill count = has_trades 1 count
 may_have word.Set count = false
 may_have word.Positions count = count == 1
 
--- the field of a number, from 1, is a quantity, if so many names stand behind the word
+-- the field with this number, from 1, is a quantity, if this many names follow the word
 abbrev pub is_quantity_field : ℕ → ℕ → Bool
 is_quantity_field names n = nat_lt (names + 1) n && ((n - (names + 1)) % 2 == 0)
 
@@ -76,20 +77,20 @@ is_quantity quantity = nat_le (nat_abs quantity) MAX_QUANTITY
 
 -- ---- faults
 
--- the field of a number has to be a name, and is none
+-- the field with this number must be a name, and is not
 abbrev pub is_bad_name : Word → ℕ → List ℕ → Bool
 is_bad_name w n text = not (is_quantity_field (names_of w) n) && not (is_name text)
 
--- the field of a number has to be a quantity, and is no whole number
+-- the field with this number must be a quantity, and is not a whole number
 abbrev pub is_bad_number : Word → ℕ → List ℕ → Bool
 is_bad_number w n text = is_quantity_field (names_of w) n && not (is_some (whole_number text))
 
--- the field of a number is a quantity outside its range
+-- the field with this number is a quantity out of range
 abbrev pub is_out_of_range : Word → ℕ → List ℕ → Bool
 is_out_of_range w n text =
     is_quantity_field (names_of w) n && not (is_quantity (unwrap_or (whole_number text) (pos 0)))
 
--- the number of the first field behind the word for which a test holds
+-- the number of the first field after the word that passes a test
 abbrev pub field_where : (ℕ → List ℕ → Bool) → List (List ℕ) → Option ℕ
 field_where test fields = option_map (λ f. f.0) (find (λ f. test f.0 f.1) (enumerate_from 2 (drop 1 fields)))
 
@@ -98,7 +99,7 @@ abbrev pub or_else : Option RequestFault → Option RequestFault → Option Requ
 or_else None other = other
 or_else (Some e) other = Some e
 
--- the fault of the fields: a name that is none, then a number that is none, then a quantity outside its range
+-- the fault of the fields: first a malformed name, then a malformed number, then a quantity out of range
 abbrev pub form_fault : Word → List (List ℕ) → Option RequestFault
 form_fault w fields =
     or_else (option_map fault.BadName (field_where (is_bad_name w) fields))
@@ -107,8 +108,8 @@ form_fault w fields =
 
 -- ---- requests
 
--- what is asked for: the statement of all accounts or of one, the explanation of one, what an order would do, trades to book, another
--- parameter set, the positions of all accounts
+-- the request: the statement of all accounts or of one, the explanation of one, the effect of an order, trades to book,
+-- another parameter set, the positions of all accounts
 pub data Asked : Type 0 where
   Margin : Asked
   MarginOf : List ℕ → Asked
@@ -118,14 +119,14 @@ pub data Asked : Type 0 where
   Set : List ℕ → Asked
   Positions : Asked
 
--- contracts with their quantities
+-- pairs of contract and quantity
 abbrev pub trades_of : List (List ℕ) → List Trade
 trades_of [] = []
 trades_of (contract ∷ []) = []
 trades_of (contract ∷ quantity ∷ rest) =
     record { contract = contract; quantity = unwrap_or (whole_number quantity) (pos 0) } ∷ trades_of rest
 
--- what a request without a fault asks for
+-- the request of fields without a fault
 abbrev pub asked_for : Word → List (List ℕ) → Asked
 asked_for word.Margin fields = if length fields == 1 then Margin else MarginOf (text_at fields 1)
 asked_for word.Explain fields = Explain (text_at fields 1)
@@ -133,12 +134,12 @@ asked_for word.Try fields = Try (text_at fields 1) (text_at fields 2) (trades_of
 asked_for word.Fill fields = Fill (text_at fields 1) (trades_of (drop 2 fields))
 asked_for _ fields = Positions
 
--- what follows from the fault of the fields, if there is one
+-- the request, unless its fields have a fault
 abbrev pub unless : Option RequestFault → Asked → Result Asked RequestFault
 unless None asked = Ok asked
 unless (Some e) asked = Err e
 
--- what a line with a word in front asks for
+-- the request of a line that begins with a word
 abbrev pub request_by : Word → List (List ℕ) → Result Asked RequestFault
 request_by w fields = if may_have w (length fields) then unless (form_fault w fields) (asked_for w fields) else Err fault.FieldCount
 
@@ -146,25 +147,25 @@ request_by w fields = if may_have w (length fields) then unless (form_fault w fi
 abbrev pub is_file_name : List ℕ → Bool
 is_file_name text = not (length text == 0) && is_utf8 text
 
--- The file that a line asks for is all that stands behind its first comma, also further commas.
+-- The file name in a line is everything after its first comma, including further commas.
 abbrev pub file_request : List ℕ → Result Asked RequestFault
 file_request line =
     if length (fields_of line) == 1 then Err fault.FieldCount
     else if is_file_name (drop 4 line) then Ok (Set (drop 4 line))
     else Err (fault.BadName 2)
 
--- what a line with its word, if it has one, asks for
+-- the request of a line with its word, if it has one
 abbrev pub request_with : Option Word → List ℕ → Result Asked RequestFault
 request_with None line = Err fault.UnknownRequest
 request_with (Some word.Set) line = file_request line
 request_with (Some w) line = request_by w (fields_of line)
 
--- what a line asks for, or its lowest-numbered fault
+-- the request of a line, or its lowest-numbered fault
 unfoldable pub request_of : List ℕ → Result Asked RequestFault
 request_of line =
     if nat_lt MAX_LINE (length line) then Err fault.LineTooLong else request_with (word_named (text_at (fields_of line) 0)) line
 
--- what a request asks for
+-- the meaning of a request
 abbrev pub asked_by : Request → Asked
 asked_by request.Margin = Margin
 asked_by (request.MarginOf account) = MarginOf account
@@ -181,12 +182,12 @@ is_memory _ = false
 
 -- ---- trades that can be bound
 
--- there are trades, and each quantity is in its range
+-- there are trades, and each quantity is in range
 pub record AreTradable (trades : List Trade) : Type 0 where
   pub some : 0 < length trades
   pub small : All (λ t. nat_abs t.quantity ≤ MAX_QUANTITY) trades
 
--- if a request has trades, they are such
+-- if a request has trades, they can be bound
 abbrev pub IsTradable : Request → Type 0
 IsTradable (request.Try order account trades) = AreTradable trades.items
 IsTradable (request.Fill account trades) = AreTradable trades.items

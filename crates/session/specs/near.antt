@@ -1,4 +1,5 @@
--- What no promise's words stand on: forms near to the code, samples.
+-- Implementation-level specifications, on which no guarantee depends: results of calls, type invariants, definitions to
+-- unfold, samples.
 pub mod Answering
 pub mod Carried
 pub mod FieldTests

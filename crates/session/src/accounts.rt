@@ -23,7 +23,7 @@ use std::alloc::{AllocError, Global};
 use std::marker::Model;
 use whatif::portfolios::copied;
 
-/// The accounts of a session with what they hold, in their order, found by their names. Contracts see the list of portfolios.
+/// The accounts of a session with their holdings, in their order, found by name. Contracts see the list of portfolios.
 #[derive(Drop)]
 pub(crate) struct Accounts {
     by_name: IndexMap<Name, Portfolio>,
@@ -43,7 +43,7 @@ impl Model for Accounts {
 }
 
 impl Accounts {
-    // No accounts, with room for so many.
+    // No accounts, with capacity for this many.
     fn with_capacity(alloc: Global, count: usize) -> Result<Accounts, AllocError>
         ensures { IfOk result (λ accounts. accounts ≡ []) }
     {
@@ -52,7 +52,7 @@ impl Accounts {
         })
     }
 
-    /// These accounts, in their order. No account may have two of the portfolios.
+    /// Creates the accounts of these portfolios, in their order. The portfolios must have distinct accounts.
     pub(crate) fn new(alloc: Global, portfolios: Portfolios) -> Result<Accounts, AllocError>
         requires { AreOnce portfolios }
         ensures { IfOk result (λ accounts. accounts ≡ portfolios) }
@@ -65,7 +65,7 @@ impl Accounts {
         Ok(accounts)
     }
 
-    /// The portfolios of all accounts, in their order.
+    /// Returns the portfolios of all accounts, in their order.
     pub(crate) fn portfolios(&self, alloc: Global) -> Result<Portfolios, AllocError>
         ensures { IfOk result (λ portfolios. portfolios ≡ self.now) }
     {
@@ -76,8 +76,8 @@ impl Accounts {
         Ok(Portfolios::new(all))
     }
 
-    /// The accounts as they hold under a set what they held under one with other contracts; or the first contract that the set lacks, by
-    /// the order of the accounts, and of one account by the order of these contracts.
+    /// Returns the accounts with the same holdings under another parameter set. Otherwise returns the first contract
+    /// that the set lacks, in the order of the accounts and, within an account, in the order of the earlier contracts.
     pub(crate) fn under_set(
         &self,
         alloc: Global,
@@ -101,21 +101,22 @@ impl Accounts {
         Ok(Accounts::new(alloc, Portfolios::new(all))?)
     }
 
-    /// How many accounts there are.
+    /// Returns the number of accounts.
     pub(crate) fn len(&self) -> usize
         ensures { result ≡ length self.now }
     {
         self.by_name.len()
     }
 
-    /// The account of a name, if there is one.
+    /// Returns the account with a name, if there is one.
     pub(crate) fn get(&self, name: &Name) -> Option<&Portfolio>
         ensures { option_copied result ≡ account_named self.now name.now }
     {
         self.by_name.get(name)
     }
 
-    /// Puts a portfolio in the place of its account, or at the end if the account is new. If memory runs out the accounts stay as they are.
+    /// Replaces the portfolio of an account, or appends it if the account is new. If memory runs out, the accounts stay
+    /// unchanged.
     pub(crate) fn put(&mut self, portfolio: Portfolio) -> Result<(), AllocError>
         ensures put { OnOk result (self.new ≡ with_account self.old portfolio) }
         ensures refused { OnErr result (self.new ≡ self.old) }
@@ -141,7 +142,7 @@ impl Accounts {
         Ok(())
     }
 
-    /// Does nothing. Its clause says that no account stands twice.
+    /// Does nothing. Its contract states that the accounts are distinct.
     pub(crate) fn known(&self)
         ensures { AreOnce self.now }
     {

@@ -14,14 +14,14 @@ use std::fmt;
 use std::fmt::Display;
 use std::io::Write;
 
-/// Appends the last line of the answer to the request of a number.
+/// Appends the last line of the answer to the request with a number.
 pub(crate) fn push_done(out: &mut Vec<u8>, number: u64) -> Result<(), AllocError>
     ensures { OnOk result (out.new.items ≡ out.old.items ++ line (done_line number)) }
 {
     push_line_of_numbers(out, "done", &[], &[i128::from(number)])
 }
 
-// The one line of a request that is refused.
+// The one line of the answer to a rejected request.
 #[derive(Clone, Copy)]
 struct RefusedLine<'a> {
     number: u64,
@@ -41,7 +41,7 @@ impl Display for RefusedLine<'_> {
     }
 }
 
-/// Appends the one line of a request of a number that is refused.
+/// Appends the one line of the answer to a rejected request with a number.
 pub(crate) fn push_refused(
     out: &mut Vec<u8>,
     number: u64,
@@ -53,7 +53,8 @@ pub(crate) fn push_refused(
     write!(out, "{line}").map_err(|_| AllocError)
 }
 
-/// The line of a request of a number that is refused because memory ran out. It needs none.
+/// Returns the line of the answer to a request with a number that is rejected because memory ran out. Allocates
+/// nothing.
 pub(crate) fn refused_memory(number: u64) -> ArrayString<64>
     ensures { result.bytes ≡ line (refused_line number refused.Memory) }
 {

@@ -29,7 +29,7 @@ use std::sync::Arc;
 use step_scheduler::rows::Row;
 use whatif::portfolios::copied;
 
-// How many names a TRY and a FILL have in front of their trades.
+// The number of names before the trades of a TRY, and of a FILL.
 const NAMES_OF_TRY: u8 = 2;
 
 const NAMES_OF_FILL: u8 = 1;
@@ -108,14 +108,14 @@ pub(crate) fn push_positions(
     Ok(())
 }
 
-// The field of a request in which the contract of a trade stands, if so many names stand in front of the trades.
+// The number of the field with the contract of a trade, for a request with this many names before its trades.
 fn field_of(names: u8, trade: usize) -> u128
     ensures { result ≡ names + 2 * trade }
 {
     u128::from(names) + 2 * (trade as u128)
 }
 
-// Why trades are refused, if so many names stand in front of them.
+// Why trades are rejected, for a request with this many names before its trades.
 fn unfit(names: u8, fault: OrderBindFault) -> Refusal<'static>
     ensures { refused_by result ≡ unfit names fault }
 {
@@ -133,7 +133,7 @@ fn unfit(names: u8, fault: OrderBindFault) -> Refusal<'static>
     }
 }
 
-/// Appends what trades would do to the margin of an account.
+/// Appends the lines of the change that trades would make to the margin of an account.
 pub(crate) fn push_try(
     out: &mut Vec<u8>,
     set: &mut SetInUse,
@@ -155,14 +155,14 @@ pub(crate) fn push_try(
     }
 }
 
-// Whether an account cannot be added, since it is new and there are as many as there may be.
+// Whether an account cannot be added, because it is new and there are as many accounts as the limit allows.
 fn has_no_place(accounts: &Accounts, account: &Name) -> bool
     ensures { (set : SetView) → result ≡ has_no_place (state_of set accounts.now) account.now }
 {
     accounts.get(account).is_none() && MAX_ACCOUNTS <= accounts.len()
 }
 
-/// Appends the total that an account has after trades, and gives what it then holds.
+/// Appends the total of an account after trades, and returns its new holdings.
 pub(crate) fn push_fill(
     out: &mut Vec<u8>,
     set: &mut SetInUse,

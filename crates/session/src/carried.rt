@@ -1,4 +1,4 @@
-//! What accounts hold under another set (docs/FORMATS.md, Sessions).
+//! The holdings of accounts under another parameter set (docs/SESSIONS.md, A new parameter set).
 ghost use Rattle.session.specs.Accounts.{held_records, under_contracts};
 ghost use Rattle.session.specs.Refusals.{refused_by};
 ghost use Rattle.session.specs.Refusals as refused;
@@ -33,7 +33,7 @@ fn held_trade(contracts: &[Contract], holding: &Holding) -> Trade
     }
 }
 
-// What an account holds, as trades that come to it.
+// The holdings of an account, as trades that add up to them.
 fn held_trades(
     alloc: Global,
     contracts: &[Contract],
@@ -49,7 +49,8 @@ fn held_trades(
     Ok(trades)
 }
 
-// Why an account does not come to hold under a set what it held before: the set lacks a contract. Nets and their number are as before.
+// Why an account cannot keep its holdings under a parameter set: the set lacks a contract. The nets and their number
+// are the same as before.
 fn lost(portfolio: &Portfolio, trades: &[Trade], fault: OrderBindFault) -> Refusal<'static>
     requires { IsLoss (length trades.now) fault }
     ensures { refused_by result ≡ loss portfolio.now.account trades.now fault }
@@ -64,7 +65,7 @@ fn lost(portfolio: &Portfolio, trades: &[Trade], fault: OrderBindFault) -> Refus
     }
 }
 
-/// What an account comes to hold under a set that held this under a set with other contracts, or the first contract that the set lacks.
+/// Returns the holdings of an account under another parameter set, or the first contract that the set lacks.
 pub(crate) fn carried(
     alloc: Global,
     set: &mut SetInUse,

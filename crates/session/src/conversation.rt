@@ -12,7 +12,7 @@ use std::thread::Threads;
 use std::time::Clock;
 use worker_pool::gates::Gate;
 
-// Answers one request of a desk, which the desk either kept as its line or did not keep, since it is too long.
+// Answers one request of a desk. The desk has kept its line, unless the line is too long.
 fn serve_one<D: Desk, S: Sources, R: Threads + Wait + Clock + Sync, G: Gate>(
     desk: &mut D,
     sources: &mut S,
@@ -41,8 +41,8 @@ fn serve_one<D: Desk, S: Sources, R: Threads + Wait + Clock + Sync, G: Gate>(
     }
 }
 
-/// Serves a session at a desk: writes its first answer, and then answers each request before it takes the next one. It ends with the
-/// requests, or behind request 18446744073709551615.
+/// Serves a session at a desk: writes its first answer, and then answers each request before it takes the next one. The
+/// session ends with the last request, or after request 18446744073709551615.
 pub fn run<D: Desk, S: Sources, R: Threads + Wait + Clock + Sync, G: Gate>(
     desk: &mut D,
     sources: &mut S,

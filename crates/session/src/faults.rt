@@ -1,23 +1,23 @@
-//! Why a request is refused. `field` counts the fields of its line from 1.
+//! Why a request is rejected. `field` counts the fields of its line from 1.
 use std::alloc::AllocError;
 use std::error::Error;
 use std::fmt;
 use std::fmt::Display;
 
-/// Why a line is no request that can be answered, lowest number first.
+/// Why a line is not a valid request. If a line has several faults, the lowest-numbered one is reported.
 #[derive(Clone, Copy, Debug, Drop, PartialEq, Eq)]
 pub enum RequestFault {
-    /// X1: it has more than 4096 bytes.
+    /// X1: the line has more than 4096 bytes.
     LineTooLong,
-    /// X2: its first field is none of the six words.
+    /// X2: the first field is not the name of a request.
     UnknownRequest,
-    /// X3: its word does not have so many fields.
+    /// X3: a request with this name cannot have this number of fields.
     FieldCount,
-    /// X4: an order, account or contract that is no name, or the name of a file that is empty or not UTF-8.
+    /// X4: an order, account or contract is not a name, or a file name is empty or not UTF-8.
     BadName { field: usize },
-    /// X5: a quantity that is no whole number.
+    /// X5: a quantity is not a whole number.
     BadNumber { field: usize },
-    /// X6: a quantity outside its range.
+    /// X6: a quantity is out of range.
     OutOfRange { field: usize },
     /// Out of memory.
     OutOfMemory,

@@ -1,4 +1,4 @@
-//! Laws of sessions: what holds of the definition of their answers. Each is the contract of a function that does nothing.
+//! Lemmas about the definition of a session's answers. Each is the contract of a function with an empty body.
 ghost use Rattle.binding.specs.OrderBinding.{TriedOrder};
 ghost use Rattle.binding.specs.declared.faults.OrderBindFault.{OrderBindFault};
 ghost use Rattle.binding.specs.declared.trades.Trade.{Trade};
@@ -15,19 +15,19 @@ ghost use Rattle.span_tables.specs.declared.records.PositionRecord.{PositionReco
 ghost use Rattle.statement_text.specs.Statement.{accepted_of, portfolios_under, statement_of, statement_text};
 ghost use Rattle.std.specs.Prelude.{◌≡◌, ◌⊎◌, ◌+◌, ◌<◌, ◌++◌, [], ◌∷◌, All, Err, List, Ok, false, length, ℕ};
 
-/// The answers to requests are the first answers to these requests and any that follow.
+/// If more requests follow, the answers to the first ones are the same.
 pub fn answers_are_the_first_of_more()
     ensures answers { (n : ℕ) (s : State) (turns more : List Turn) → answers_from n s (turns ++ more)
         ≡ answers_from n s turns ++ answers_from (n + length turns) (state_behind s turns) more }
     ensures state { (s : State) (turns more : List Turn) → state_behind s (turns ++ more) ≡ state_behind (state_behind s turns) more }
 {}
 
-/// A request that is refused changes nothing.
+/// A rejected request changes nothing.
 pub fn a_refused_request_changes_nothing()
     ensures { (s : State) (turn : Turn) (what : Refused) → answer_of s turn ≡ Err what → state_after s (answer_of s turn) ≡ s }
 {}
 
-/// A request that changes nothing may be left out: the answers to all others are the same but for their numbers.
+/// A request that changes nothing may be left out: the other answers are the same, except for their numbers.
 pub fn a_request_that_changes_nothing_may_be_left_out()
     ensures with { (s : State) (turns : List Turn) (turn : Turn) (more : List Turn)
         → state_after (state_behind s turns) (answer_of (state_behind s turns) turn) ≡ state_behind s turns
@@ -38,8 +38,8 @@ pub fn a_request_that_changes_nothing_may_be_left_out()
     ensures numbers { (n : ℕ) (s : State) (turns : List Turn) → answers_from n s turns ≡ numbered_from n (outcomes s turns) }
 {}
 
-/// A FILL right behind a TRY of the same account and trades answers the total that the TRY shows as the total after the order, unless the
-/// account has no place. Both are refused for the same fault, one field apart.
+/// If a FILL immediately follows a TRY of the same account and trades, its total is the total that the TRY shows after
+/// the order, unless there is no room for the account. Both are rejected for the same fault, one field apart.
 pub fn a_fill_behind_a_try_has_its_total()
     ensures total { (s : State) (order account : List ℕ) (trades : List Trade) (o : TriedOrder) → 0 < length trades
         → has_no_place s account ≡ false → tried s order account trades ≡ Ok o
@@ -49,9 +49,9 @@ pub fn a_fill_behind_a_try_has_its_total()
         → fill_answer s account trades ≡ Err (unfit 1 e) }
 {}
 
-/// Without another set, a session has the accounts of the records that it was opened with and, behind these, of the records of all fills
-/// that were not refused. So MARGIN answers what `margin` prints for the parameter file and a position file that has
-/// these records.
+/// Without a SET, a session has the accounts of the records that it was opened with, followed by the records of all
+/// accepted fills. Therefore the answer to MARGIN is what `margin` prints for the parameter file and a position file
+/// that has these records.
 pub fn fills_are_records_behind_the_positions()
     ensures accounts { (params : List ℕ) (t : AcceptedTables) (records : List PositionRecord) (accounts : List AccountHoldings)
         (turns : List Turn) → accepted_of params ≡ Ok t → portfolios_under t records ≡ Ok accounts
@@ -64,9 +64,9 @@ pub fn fills_are_records_behind_the_positions()
         → statement_of params more ≡ Ok (statement_text (state_behind s turns).tables (state_behind s turns).accounts) }
 {}
 
-/// A session can be closed and opened again from the parameter file of its set and what POSITIONS answers, if the set has a contract or
-/// there is no account: over these two as files it has the same state, and MARGIN answers what `margin` prints for them, and for any
-/// position file that has the same records.
+/// A session can be closed and opened again from the parameter file of its set and the answer to POSITIONS, if the set
+/// has a contract or there is no account. Over these two files it has the same state. The answer to MARGIN is what
+/// `margin` prints for them, and for any position file that has the same records.
 pub fn a_session_can_be_opened_again()
     ensures state { (params positions current : List ℕ) (s : State) (turns : List Turn) → opened params positions ≡ Ok s
         → accepted_of current ≡ Ok (state_behind s turns).tables

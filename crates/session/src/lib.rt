@@ -1,4 +1,4 @@
-//! Sessions: requests, which are lines, the accounts that they are about, and what they are answered.
+//! Sessions: requests, one on each line, the accounts that they concern, and their answers.
 #![tactic(auto)]
 
 mod accounts;

@@ -1,4 +1,4 @@
-//! Position records of what accounts hold, as lines of a position file (docs/FORMATS.md, Records).
+//! The holdings of accounts as lines of a position file (docs/FORMATS.md, Position file).
 ghost use Rattle.session.specs.Accounts.{account_records, contract_of, flat_records, held_record, held_records};
 ghost use Rattle.session.specs.Positions.{position_line, position_lines};
 ghost use Rattle.span_tables.specs.Holdings.{fits};
@@ -24,7 +24,7 @@ fn push_position(
     push_line_of_numbers(out, account.as_str(), &contract, &[i128::from(quantity)])
 }
 
-// Appends the record of an account that holds nothing, if the set has a contract.
+// Appends the record of an account that holds nothing, if the parameter set has a contract.
 fn push_flat(out: &mut Vec<u8>, contracts: &[Contract], account: &Name) -> Result<(), AllocError>
     ensures { OnOk result (out.new.items ≡ out.old.items ++ position_lines (flat_records contracts.now account.now)) }
 {
@@ -34,7 +34,7 @@ fn push_flat(out: &mut Vec<u8>, contracts: &[Contract], account: &Name) -> Resul
     }
 }
 
-/// The id of the contract of a holding.
+/// Returns the id of the contract of a holding.
 pub(crate) fn contract_of<'a>(contracts: &'a [Contract], holding: &Holding) -> &'a Name
     requires { holding.now.contract < length contracts.now }
     ensures { result.now ≡ contract_of contracts.now holding.now }
@@ -71,7 +71,7 @@ fn push_held(
     Ok(())
 }
 
-/// Appends the position records of an account, in the file order of the set.
+/// Appends the position records of an account, in the file order of the parameter set.
 pub(crate) fn push_records(
     out: &mut Vec<u8>,
     contracts: &[Contract],

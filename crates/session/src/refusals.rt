@@ -1,4 +1,4 @@
-//! Why a request is refused, and what its answer says.
+//! Why a request is rejected, and the text of its answer.
 
 use crate::faults::RequestFault;
 use span_tables::name::Name;
@@ -8,26 +8,26 @@ use std::error::Error;
 use std::fmt;
 use std::fmt::Display;
 
-/// Why a request is refused. A refusal changes nothing. `field` counts the fields of the request from 1.
+/// Why a request is rejected. A rejected request changes nothing. `field` counts the fields of the request from 1.
 #[derive(Debug, Drop)]
 pub enum Refusal<'a> {
-    /// X1 to X6: the line is no request.
+    /// X1 to X6: the line is not a valid request.
     Form(RequestFault),
     /// E1: no account has this name.
     UnknownAccount,
-    /// Q5: a new account, and there are as many as there may be.
+    /// Q5: the account is new, and there are as many accounts as the limit allows.
     TooManyAccounts,
-    /// B1: a contract that the set does not have.
+    /// B1: the parameter set lacks a contract.
     UnknownContract { field: u128 },
     /// B2: a net of the account would be out of range.
     NetOutOfRange { field: u128 },
     /// B3: the account would hold too many contracts.
     TooManyHeld { field: u128 },
-    /// The parameter file is not read, or breaks a rule.
+    /// The parameter file cannot be read, or breaks a rule.
     Parameters(SpanFault),
     /// B1: the parameter file lacks a contract that an account holds.
     Lost { account: Name, contract: Name },
-    /// The file of this name cannot be read.
+    /// The file with this name cannot be read.
     File { name: &'a str },
     /// Out of memory.
     Memory,

@@ -1,4 +1,4 @@
-//! Requests of a session, one a line.
+//! Requests of a session, one on each line.
 ghost use Rattle.std.specs.Prelude.{◌≡◌, ◌<◌, ◌≤◌, ◌^◌, ⊤, IfOk, MatchBool, MatchOption, MatchResult, Ok, Err, None, Some};
 ghost use Rattle.std.specs.Prelude.{drop, false, length, pos, true, unwrap_or};
 ghost use Rattle.session.specs.Requests.{asked_by, asked_for, fields_of, file_request, form_fault, has_trades, is_file_name};
@@ -19,10 +19,10 @@ use span_tables::name::{Name, is_name};
 use std::alloc::{AllocError, Global};
 use std::str;
 
-/// How many contracts with their quantities a request may have.
+/// The maximum number of pairs of contract and quantity in a request.
 pub const MAX_TRADES: usize = 64;
 
-/// What a session is asked for.
+/// A request of a session.
 #[derive(Drop)]
 pub enum Request<'a> {
     /// The statement of all accounts.
@@ -35,7 +35,7 @@ pub enum Request<'a> {
     Explain {
         account: Name,
     },
-    /// What an order would do to the margin of an account.
+    /// The change that an order would make to the margin of an account.
     Try {
         order: Name,
         account: Name,
@@ -54,7 +54,7 @@ pub enum Request<'a> {
     Positions,
 }
 
-/// The first field of a request.
+/// The first field of a request, which is its name.
 #[derive(Clone, Copy, Debug, PartialEq, Eq)]
 pub enum Word {
     Margin,
@@ -65,7 +65,7 @@ pub enum Word {
     Positions,
 }
 
-// The word that a field is.
+// The word that a field spells.
 fn word_named(field: &[u8]) -> Option<Word>
     ensures { result ≡ word_named field.now }
 {
@@ -86,7 +86,7 @@ fn word_named(field: &[u8]) -> Option<Word>
     }
 }
 
-// The word that the first of some fields is.
+// The word that the first field spells.
 fn first_word(fields: &[&[u8]]) -> Option<Word>
     requires { 0 < length fields.now }
     ensures { result ≡ word_named (text_at (texts_of fields.now) 0) }
@@ -94,7 +94,8 @@ fn first_word(fields: &[&[u8]]) -> Option<Word>
     word_named(fields[0])
 }
 
-// Whether so many fields are a word, so many names, and at least one contract with its quantity and not too many.
+// Whether this number of fields is a word, `names` names, and at least one pair of contract and quantity, but not too
+// many.
 fn has_trades(names: usize, count: usize) -> bool
     requires { names ≤ 2 }
     ensures { result ≡ has_trades names count }
@@ -102,7 +103,7 @@ fn has_trades(names: usize, count: usize) -> bool
     names + 1 < count && count <= names + 1 + 2 * MAX_TRADES && (count - (names + 1)) % 2 == 0
 }
 
-// Whether the field of a number, from 1, is a quantity, if so many names stand behind the word.
+// Whether the field with this number, from 1, is a quantity, if this many names follow the word.
 fn is_quantity_field(names: usize, number: usize) -> bool
     requires { names ≤ 2 }
     ensures { result ≡ is_quantity_field names number }
@@ -111,7 +112,7 @@ fn is_quantity_field(names: usize, number: usize) -> bool
 }
 
 impl Word {
-    // How many names stand behind the word, in front of contracts and quantities.
+    // The number of names between the word and the pairs of contract and quantity.
     fn names(self) -> usize
         ensures names { result ≡ names_of self }
         ensures few { result ≤ 2 }
@@ -123,7 +124,7 @@ impl Word {
         }
     }
 
-    // Whether a request may have so many fields. (What a SET may have is tested by itself.)
+    // Whether a request may have this number of fields. The fields of a SET are checked with its file name.
     fn may_have(self, count: usize) -> bool
         ensures { result ≡ may_have self count }
     {
@@ -137,7 +138,7 @@ impl Word {
     }
 }
 
-/// What is tested of the fields of a request.
+/// A test of the fields of a request.
 #[derive(Clone, Copy)]
 pub enum FieldTest {
     Name,
@@ -145,7 +146,7 @@ pub enum FieldTest {
     Range,
 }
 
-// Whether a text is no whole number, or a quantity in its range.
+// Whether a text is not a whole number, or a quantity in range.
 fn is_in_range(text: &[u8]) -> bool
     ensures { result ≡ is_quantity (unwrap_or (whole_number text.now) (pos 0)) }
 {
@@ -156,7 +157,7 @@ fn is_in_range(text: &[u8]) -> bool
 }
 
 impl FieldTest {
-    // Whether the field of a number fails.
+    // Whether the field with this number fails.
     fn fails(self, word: Word, number: usize, text: &[u8]) -> bool
         ensures { result ≡ fails self word number text.now }
     {
@@ -168,7 +169,7 @@ impl FieldTest {
         }
     }
 
-    // The number of the first field behind the word that fails.
+    // The number of the first field after the word that fails.
     fn first(self, word: Word, fields: &[&[u8]]) -> Option<usize>
         requires { length fields.now < 2 ^ 63 }
         ensures { result ≡ field_failing self word (texts_of fields.now) }
@@ -199,7 +200,7 @@ fn form_fault(word: Word, fields: &[&[u8]]) -> Option<RequestFault>
     None
 }
 
-// The trade that a contract and a quantity are.
+// The trade with a contract and a quantity.
 fn trade_of(contract: &[u8], quantity: &[u8]) -> Trade
     requires contract { is_name contract.now ≡ true }
     requires quantity { is_quantity (unwrap_or (whole_number quantity.now) (pos 0)) ≡ true }
@@ -211,7 +212,7 @@ fn trade_of(contract: &[u8], quantity: &[u8]) -> Trade
     }
 }
 
-// The contracts and quantities of fields without a fault.
+// The trades in fields without a fault.
 fn trades_of(alloc: Global, fields: &[&[u8]]) -> Result<Vec<Trade>, AllocError>
     requires trades { AreTrades (texts_of fields.now) }
     requires some { 2 ≤ length fields.now }
@@ -227,7 +228,7 @@ fn trades_of(alloc: Global, fields: &[&[u8]]) -> Result<Vec<Trade>, AllocError>
     Ok(trades)
 }
 
-// What the fields of a request ask for that have no fault.
+// The request of fields without a fault.
 fn request_for<'a>(
     alloc: Global,
     word: Word,
@@ -259,14 +260,14 @@ fn request_for<'a>(
     }
 }
 
-// What stands behind the word SET and the comma that follows it.
+// The bytes after the word SET and the comma that follows it.
 fn behind_set(line: &[u8]) -> &[u8]
     ensures { result.now ≡ drop 4 line.now }
 {
     if line.len() < 4 { &[] } else { &line[4..] }
 }
 
-// The name of a file that a text is, if it is one.
+// The file name that a text is, if it is one.
 fn file_named(text: &[u8]) -> Option<&str>
     ensures { MatchOption result (is_file_name text.now ≡ false) (λ file. (file.now ≡ text.now) × (is_file_name text.now ≡ true)) }
 {
@@ -279,7 +280,7 @@ fn file_named(text: &[u8]) -> Option<&str>
     }
 }
 
-// What a line asks for whose word is SET.
+// The request of a line whose word is SET.
 fn file_request(line: &[u8], fields: usize) -> Result<Request<'_>, RequestFault>
     requires { length (fields_of line.now) ≡ fields }
     ensures value { MatchResult result (λ request. file_request line.now ≡ Ok (asked_by request)) (λ e. file_request line.now ≡ Err e) }
@@ -294,7 +295,7 @@ fn file_request(line: &[u8], fields: usize) -> Result<Request<'_>, RequestFault>
     }
 }
 
-// The fields of a line, which are what stands between its commas.
+// The fields of a line: the bytes between its commas.
 fn fields_of(alloc: Global, line: &[u8]) -> Result<Vec<&[u8]>, AllocError>
     ensures { IfOk result (λ fields. texts_of fields.items ≡ fields_of line.now) }
 {
@@ -308,7 +309,7 @@ fn fields_of(alloc: Global, line: &[u8]) -> Result<Vec<&[u8]>, AllocError>
     Ok(fields)
 }
 
-// What the fields of a line ask for whose word is not SET.
+// The request of the fields of a line whose word is not SET.
 fn fields_request<'a>(
     alloc: Global,
     word: Word,
@@ -328,7 +329,7 @@ fn fields_request<'a>(
     }
 }
 
-// What a line with this word and these fields asks for.
+// The request of a line with this word and these fields.
 fn word_request<'a>(
     alloc: Global,
     line: &'a [u8],
@@ -347,7 +348,7 @@ fn word_request<'a>(
     }
 }
 
-/// What a line asks for, or its lowest-numbered fault.
+/// Returns the request of a line, or its lowest-numbered fault.
 #[tactic(auto, unfolding(crate::specs::Requests::request_of))]
 pub fn read_request(alloc: Global, line: &[u8]) -> Result<Request<'_>, RequestFault>
     ensures value { MatchResult result (λ request. request_of line.now ≡ Ok (asked_by request))

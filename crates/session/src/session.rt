@@ -1,4 +1,4 @@
-//! Sessions: a set and accounts, and the answers to requests about them (docs/FORMATS.md, Sessions).
+//! Sessions: a parameter set and accounts, and the answers to requests about them (docs/SESSIONS.md, Requests).
 ghost use Rattle.session.specs.Answers.{State, answer_to, opened, unchanged, under_accepted, under_file};
 ghost use Rattle.session.specs.Conversations.{IsTurn, answer_text, file_in, opening_text, refused_line, state_after};
 ghost use Rattle.session.specs.Refusals.{refused_by};
@@ -40,13 +40,15 @@ use std::thread::Threads;
 use std::time::Clock;
 use worker_pool::gates::Gate;
 
-/// The file that is the stream of requests. No other name of that stream is looked for.
+/// The file name of the stream of requests. Other names of this stream are not detected.
 const STDIN: &str = "/dev/stdin";
 
-// Room for a request and the longest last line of an answer: made once, so that a refusal needs no more.
+// Capacity in bytes for a request and the longest last line of an answer. It is allocated once, so that a refusal
+// allocates no more.
 const ROOM: usize = 8192;
 
-/// The workers that compute the statement of all accounts: from 1 to 16 of them, on a runtime. They pass a gate before each step.
+/// The workers that compute the statement of all accounts: 1 to 16 of them, on a runtime. They call the hook `gate`
+/// before each step.
 #[derive(Drop)]
 pub struct Workers<'a, R, G: Gate> {
     pub rt: &'a R,
@@ -54,17 +56,17 @@ pub struct Workers<'a, R, G: Gate> {
     pub gate: &'a G,
 }
 
-/// What a request changes in a session.
+/// The change that a request makes to a session.
 #[derive(Drop)]
 pub(crate) enum Change {
     Nothing,
-    /// An account holds what this portfolio has.
+    /// The portfolio replaces the holdings of its account.
     Account(Portfolio),
-    /// There is another set, under which the accounts are these.
+    /// There is another parameter set, under which these are the accounts.
     Set(SetInUse, Accounts),
 }
 
-/// A session: an accepted set, and accounts with what they hold, in their order. Contracts see both.
+/// A session: an accepted parameter set, and accounts with their holdings, in their order. Contracts see both.
 #[derive(Drop)]
 pub struct Session {
     alloc: Global,
@@ -91,7 +93,7 @@ pub struct Opened {
     pub text: Vec<u8>,
 }
 
-// Appends the line of counts of a set.
+// Appends the line of counts of a parameter set.
 fn push_counts(alloc: Global, out: &mut Vec<u8>, set: &SetInUse) -> Result<(), AllocError>
     ensures { OnOk result (out.new.items ≡ out.old.items ++ line (counts_line set.now.tables)) }
 {
@@ -99,7 +101,7 @@ fn push_counts(alloc: Global, out: &mut Vec<u8>, set: &SetInUse) -> Result<(), A
     out.extend_from_slice(&counts)
 }
 
-// The answer that opens a session. It has room for the last line of any answer.
+// The answer that opens a session. The vector has capacity for the last line of any answer.
 fn opening(alloc: Global, set: &SetInUse) -> Result<Vec<u8>, AllocError>
     ensures { (s : State) → s.tables ≡ set.now.tables → IfOk result (λ text. text.items ≡ opening_text s) }
 {
@@ -109,7 +111,7 @@ fn opening(alloc: Global, set: &SetInUse) -> Result<Vec<u8>, AllocError>
     Ok(text)
 }
 
-// Compiles the set of a file that was read, or says why it is refused. The file has this name.
+// Compiles the parameter set of a file that was read, or returns why it is rejected. The file has this name.
 fn set_read<'a>(
     alloc: Global,
     name: &'a str,
@@ -132,7 +134,7 @@ fn set_read<'a>(
     }
 }
 
-// Reads the file that a request asks for, if it asks for one other than the stream of requests.
+// Reads the file that a request asks for, if it asks for one and this is not the stream of requests.
 fn read_asked<S: Sources>(
     alloc: Global,
     sources: &mut S,
@@ -148,7 +150,7 @@ fn read_asked<S: Sources>(
     }
 }
 
-// The refusal of a request that has this fault.
+// The refusal of a request with this fault.
 fn refusal_of(fault: RequestFault) -> Refusal<'static>
     ensures { MatchBool (is_memory_fault fault) (result ≡ refusal.Memory) (result ≡ refusal.Form fault) }
 {
@@ -158,7 +160,7 @@ fn refusal_of(fault: RequestFault) -> Refusal<'static>
     }
 }
 
-// Writes the line of a refusal, in place of what `out` had.
+// Replaces the content of `out` by the line of a refusal.
 fn refuse(out: &mut Vec<u8>, number: u64, refusal: Refusal<'_>) -> Result<(), AllocError>
     ensures { OnOk result ((is_memory refusal.entry ≡ false) × (out.new.items ≡ line (refused_line number (refused_by refusal.entry)))) }
 {
@@ -170,8 +172,8 @@ fn refuse(out: &mut Vec<u8>, number: u64, refusal: Refusal<'_>) -> Result<(), Al
 }
 
 impl Session {
-    /// Opens a session over two files: the first fault in reading the parameters, checking them, reading the positions and binding them; or
-    /// out of memory.
+    /// Opens a session over two files, or returns the first fault in reading the parameters, checking them, reading the
+    /// positions and binding them. Fails with `Memory` if memory runs out.
     pub fn open<R: Threads + Sync>(
         rt: &R,
         alloc: Global,
@@ -190,7 +192,7 @@ impl Session {
         Ok(Session::over(alloc, set, portfolios)?)
     }
 
-    // Opens a session over a compiled set and the portfolios of its accounts.
+    // Opens a session over a compiled parameter set and the portfolios of its accounts.
     fn over(
         alloc: Global,
         set: Arc<CompiledSet>,
@@ -235,7 +237,8 @@ impl Session {
         Ok(())
     }
 
-    // Makes the set of a file that was read, carries the accounts over to it, and appends its line of counts.
+    // Compiles the parameter set of a file that was read, carries the accounts over to it, and appends its line of
+    // counts.
     fn push_set<'a>(
         &self,
         out: &mut Vec<u8>,
@@ -255,7 +258,8 @@ impl Session {
         Ok(Change::Set(set, accounts))
     }
 
-    // Appends the lines of the answer to a request, and returns what it changes. `file` is what was read of the file that it asks for.
+    // Appends the lines of the answer to a request, and returns the change that it makes. `file` is the result of
+    // reading the file that the request asks for.
     #[tactic(auto, unfolding(crate::specs::Answers::answer_to))]
     fn push_lines<'a, R: Threads + Wait + Clock + Sync, G: Gate>(
         &mut self,
@@ -314,7 +318,7 @@ impl Session {
         Ok(())
     }
 
-    // Answers a request, or says why it is refused.
+    // Answers a request, or returns why it is rejected.
     fn answer_request<'a, R: Threads + Wait + Clock + Sync, G: Gate>(
         &mut self,
         workers: &Workers<'_, R, G>,
@@ -339,8 +343,8 @@ impl Session {
         Ok(())
     }
 
-    /// Answers the request of this number and line. The text of the answer replaces what was in `out`. If memory runs out, the session
-    /// stays as it was, and the caller has to write the refusal.
+    /// Answers the request with this number and line. The text of the answer replaces the content of `out`. If memory
+    /// runs out, the session stays unchanged, and the caller has to write the refusal.
     pub fn answer<R: Threads + Wait + Clock + Sync, G: Gate, S: Sources>(
         &mut self,
         workers: &Workers<'_, R, G>,
@@ -369,7 +373,7 @@ impl Session {
     }
 }
 
-/// Answers the request of this number, which is too long. The text of the answer replaces what was in `out`.
+/// Answers the request with this number, which is too long. The text of the answer replaces the content of `out`.
 pub fn refuse_long(out: &mut Vec<u8>, number: u64) -> Result<(), AllocError>
     ensures { OnOk result (out.new.items ≡ line (refused_line number (refused.Form form.LineTooLong))) }
 {

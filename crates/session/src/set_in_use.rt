@@ -1,4 +1,4 @@
-//! The set that a session works under.
+//! The parameter set that a session uses.
 ghost use Rattle.binding.specs.OrderBinding.{is_memory, order_bind_fault, orders_bound, tried_order};
 ghost use Rattle.session.specs.Answers.{total_text, trade_records};
 ghost use Rattle.session.specs.Requests.{AreTradable};
@@ -27,7 +27,8 @@ use whatif::numbers::{Numbers, numbers_of};
 use whatif::portfolios::copied;
 use worker_pool::plain::Runs;
 
-/// A compiled set, with what is made once for it: runs under it, and the binder of trades to its contracts. Contracts see the set.
+/// A compiled parameter set, with what is prepared once for it: runs under it, and the binder of trades to its
+/// contracts. Contracts see the set.
 #[derive(Drop)]
 pub(crate) struct SetInUse {
     alloc: Global,
@@ -48,7 +49,7 @@ impl Model for SetInUse {
     ghost invariant = { λ s. IsInUse (arc_value s.set) s.runs s.binder };
 }
 
-// The portfolios of an account that is known, or none.
+// The portfolio of a known account as a list, or an empty list.
 fn own_portfolios(alloc: Global, known: Option<&Portfolio>) -> Result<Portfolios, AllocError>
     ensures { IfOk result (λ own. own ≡ option_to_list (option_copied known.entry)) }
 {
@@ -59,7 +60,7 @@ fn own_portfolios(alloc: Global, known: Option<&Portfolio>) -> Result<Portfolios
     Ok(Portfolios::new(own))
 }
 
-// What the account of the first of some orders holds without it.
+// The holdings of the first order's account without the order.
 fn before(alloc: Global, orders: &Orders, account: &Name) -> Result<Portfolio, AllocError>
     requires { 0 < length orders.now.orders }
     ensures { IfOk result (λ p. option_map (λ o. o.before.holdings) (slice_get orders.now.orders 0) ≡ Some p.holdings) }
@@ -71,7 +72,7 @@ fn before(alloc: Global, orders: &Orders, account: &Name) -> Result<Portfolio, A
 }
 
 impl SetInUse {
-    /// A set with what is made once for it.
+    /// Prepares a parameter set for use.
     pub(crate) fn new(alloc: Global, set: Arc<CompiledSet>) -> Result<SetInUse, AllocError>
         ensures { IfOk result (λ s. s ≡ arc_value set) }
     {
@@ -85,21 +86,21 @@ impl SetInUse {
         })
     }
 
-    /// The compiled set.
+    /// Returns the compiled parameter set.
     pub(crate) fn set(&self) -> &Arc<CompiledSet>
         ensures { arc_value result.now ≡ self.now }
     {
         &self.set
     }
 
-    /// The tables of the set.
+    /// Returns the tables of the parameter set.
     pub(crate) fn tables(&self) -> &Tables
         ensures { result.now ≡ self.now.tables }
     {
         self.set.tables()
     }
 
-    /// The row of a portfolio under the set.
+    /// Returns the row of a portfolio under the parameter set.
     pub(crate) fn row(&mut self, portfolio: Portfolio) -> Result<Arc<Row>, AllocError>
         requires { FitsSet self.old portfolio }
         ensures same { self.new ≡ self.old }
@@ -108,7 +109,7 @@ impl SetInUse {
         self.runs.row(portfolio)
     }
 
-    // Trades as the one order of an account, or the fault of B1 to B3 that they have.
+    // Trades as the one order of an account, or their fault of B1 to B3.
     fn bind(
         &mut self,
         known: Option<&Portfolio>,
@@ -126,7 +127,7 @@ impl SetInUse {
         self.binder.bind(self.alloc, own, &records)
     }
 
-    // What the account of the first of some orders is margined at without it.
+    // The margin of the first order's account without the order.
     #[tactic(auto, using(crate::proofs::OrderLemmas::first_before))]
     fn numbers_before(&mut self, orders: &Orders, account: &Name) -> Result<Numbers, AllocError>
         requires some { 0 < length orders.now.orders }
@@ -138,7 +139,7 @@ impl SetInUse {
         numbers_of(self.alloc, &row)
     }
 
-    // The row of the account of the first of some orders with it.
+    // The row of the first order's account with the order.
     #[tactic(auto, using(crate::proofs::OrderLemmas::first_after))]
     fn row_after(&mut self, orders: &Orders) -> Result<Arc<Row>, AllocError>
         requires some { 0 < length orders.now.orders }
@@ -150,8 +151,8 @@ impl SetInUse {
         self.row(after)
     }
 
-    /// Appends the lines of trades as an order of an account, or gives their fault of B1 to B3. `known` is what the account holds, if it is
-    /// known.
+    /// Appends the lines of trades as an order of an account, or returns their fault of B1 to B3. `known` is the
+    /// account's portfolio, if it is known.
     pub(crate) fn push_tried(
         &mut self,
         out: &mut Vec<u8>,
@@ -178,7 +179,8 @@ impl SetInUse {
         Ok(())
     }
 
-    /// What an account holds after trades, or their fault of B1 to B3. `known` is what the account holds before them, if it is known.
+    /// Returns the holdings of an account after trades, or their fault of B1 to B3. `known` is the account's portfolio
+    /// before them, if it is known.
     pub(crate) fn after(
         &mut self,
         known: Option<&Portfolio>,
@@ -199,7 +201,7 @@ impl SetInUse {
         Ok(self.binder.portfolio_after(self.alloc, &orders, 0)?)
     }
 
-    /// Appends the line of the total of an account.
+    /// Appends the T line of an account, which has its total.
     pub(crate) fn push_total(
         &mut self,
         out: &mut Vec<u8>,

@@ -1,4 +1,4 @@
-//! What lines ask for, computed by the definitions.
+//! The requests of lines, computed by the definitions.
 #![tactic(auto, unfolding(crate::specs::Requests::request_of))]
 
 ghost use Rattle.std.specs.Prelude.{◌≡◌, [], ◌∷◌, Err, Ok, codes, neg_ℤ, pos, true};
@@ -6,7 +6,7 @@ ghost use Rattle.std.specs.Str.{is_utf8};
 ghost use Rattle.session.specs.Requests.{Explain, Fill, Margin, MarginOf, Positions, Set, Try, request_of};
 ghost use Rattle.session.specs.declared.faults.RequestFault.TheVariants as fault;
 
-// A request of each word.
+// A request for each word.
 fn requests()
     ensures margin { request_of (codes "MARGIN") ≡ Ok Margin }
     ensures margin_of { request_of (codes "MARGIN,X") ≡ Ok (MarginOf (codes "X")) }
@@ -19,14 +19,14 @@ fn requests()
     ensures positions { request_of (codes "POSITIONS") ≡ Ok Positions }
 {}
 
-// The name of a file may have commas. (That it is UTF-8 is not computed here.)
+// A file name may contain commas. (Whether it is UTF-8 is not computed here.)
 fn files()
     ensures comma { is_utf8 (codes "next,1.csv") ≡ true → request_of (codes "SET,next,1.csv") ≡ Ok (Set (codes "next,1.csv")) }
     ensures empty { request_of (codes "SET,") ≡ Err (fault.BadName 2) }
     ensures none { request_of (codes "SET") ≡ Err fault.FieldCount }
 {}
 
-// The lowest-numbered fault, and of one fault the lowest field.
+// The lowest-numbered fault, and the lowest field with this fault.
 fn faults()
     ensures name { request_of (codes "TRY,BUY,X,FA,x,fb,1,fc,1") ≡ Err (fault.BadName 6) }
     ensures number { request_of (codes "FILL,X,FA,1000001,FA,1.0") ≡ Err (fault.BadNumber 6) }

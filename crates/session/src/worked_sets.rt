@@ -1,4 +1,4 @@
-//! Sets that are exchanged in a session, computed by the definitions alone.
+//! Parameter sets that are replaced in a session, computed by the definitions alone.
 #![tactic(auto, unfolding(crate::specs::near::OnLiterals::on_literals))]
 
 ghost use Rattle.session.specs.near.Samples.{held_futures, margin_behind, next_set, set_text, two_futures};
@@ -6,7 +6,8 @@ ghost use Rattle.sources.specs.declared.ReadFault.TheVariants as read;
 ghost use Rattle.statement_text.specs.near.Samples.{one_future};
 ghost use Rattle.std.specs.Prelude.{◌≡◌, Err, None, Ok, Some, codes};
 
-// A set is refused if it lacks the contract of a holding or has a fault, if its file cannot be read, or if it is the stream of requests.
+// A parameter set is rejected if it lacks the contract of a holding or has a fault, if its file cannot be read, or if
+// the file is the stream of requests.
 fn refused_sets()
     ensures lost { set_text two_futures held_futures (codes "next.csv") (Some (Ok one_future))
         ≡ Ok (codes "refused,1,positions: B1 UnknownContract account Y contract FA2\n") }
@@ -18,7 +19,7 @@ fn refused_sets()
     ensures memory { set_text two_futures held_futures (codes "next.csv") None ≡ Ok (codes "refused,1,memory\n") }
 {}
 
-// Another set, whose contracts have other numbers: holdings go by the names of their contracts.
+// Another parameter set, whose contracts have other indices: holdings are matched by the names of their contracts.
 fn exchanged_set()
     ensures counts { set_text one_future (codes "X,FA,1\n") (codes "next.csv")
         (Some (Ok next_set))

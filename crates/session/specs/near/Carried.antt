@@ -1,4 +1,4 @@
--- What accounts hold, as trades that come to it, and what they come to hold under another set.
+-- The holdings of accounts as trades that add up to them, and their holdings under another parameter set.
 use Rattle.std.specs.Prelude.{◌≡◌, ◌<◌, ◌≤◌, ⊤, ℕ, ◌-◌, List, [], ◌++◌, All, length, map, option_map, slice_get, true, unwrap_or}
 use Rattle.plan_compiler.specs.Compiled.{SetView}
 use Rattle.span_tables.specs.Holdings.{fits}
@@ -20,20 +20,20 @@ held_trade contracts h = record { contract = contract_of contracts h; quantity =
 abbrev pub held_trades : List Contract → List Holding → List Trade
 held_trades contracts holdings = map (held_trade contracts) holdings
 
--- the fault is of one of so many trades, in a contract that is not known, or that memory ran out
+-- the fault is an unknown contract in one of `count` trades, or out of memory
 abbrev pub IsLoss : ℕ → OrderBindFault → Type 0
 IsLoss count (fault.UnknownContract at order) = (0 < at) × (at ≤ count)
 IsLoss count (fault.NetOutOfRange at order) = ⊥
 IsLoss count (fault.TooManyHeld at order) = ⊥
 IsLoss count fault.OutOfMemory = ⊤
 
--- what is refused for the fault of the trades of an account
+-- the refusal for the fault of the trades of an account
 abbrev pub loss : List ℕ → List Trade → OrderBindFault → Refused
 loss account trades (fault.UnknownContract at order) =
     refused.Lost account (unwrap_or (option_map (λ t. t.contract) (slice_get trades (at - 1))) [])
 loss account trades _ = refused.Memory
 
--- of all accounts of a session some are carried to another set, and these are left
+-- the accounts that were carried over to another parameter set, and the accounts that are left
 pub record AreCarried (set : SetView) (old : List Contract) (all left carried : List AccountHoldings) : Type 0 where
   pub accounts : carried ++ map (under_contracts old set.tables.contracts) left ≡ map (under_contracts old set.tables.contracts) all
   pub fit : AllFit set carried

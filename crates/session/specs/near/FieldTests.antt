@@ -7,17 +7,17 @@ use Rattle.session.specs.declared.requests.FieldTest.{FieldTest}
 use Rattle.session.specs.declared.requests.FieldTest.TheVariants as test
 use Rattle.session.specs.declared.requests.Word.{Word}
 
--- the field of a number fails
+-- the field with this number fails the test
 abbrev pub fails : FieldTest → Word → ℕ → List ℕ → Bool
 fails test.Name w n text = is_bad_name w n text
 fails test.Number w n text = is_bad_number w n text
 fails test.Range w n text = is_out_of_range w n text
 
--- the number of the first field behind the word that fails
+-- the number of the first field after the word that fails
 abbrev pub field_failing : FieldTest → Word → List (List ℕ) → Option ℕ
 field_failing t w fields = field_where (fails t w) fields
 
--- contracts that are names, each with a quantity in its range
+-- the fields are pairs of a contract, which is a name, and a quantity in range
 abbrev pub AreTrades : List (List ℕ) → Type 0
 AreTrades [] = ⊤
 AreTrades (contract ∷ []) = ⊤

@@ -1,9 +1,9 @@
--- Accounts as they are kept: each under its name.
+-- How accounts are kept: each under its name.
 use Rattle.std.specs.Prelude.{◌≡◌, ℕ, List, bytes_eq, map}
 use Rattle.std.specs.List.{AllByRecursion, IsDistinct}
 use Rattle.span_tables.specs.Net.{AccountHoldings}
 
--- no account stands twice
+-- the accounts are distinct
 abbrev pub AreOnce : List AccountHoldings → Type 0
 AreOnce accounts = IsDistinct bytes_eq (map (λ p. p.account) accounts)
 

@@ -1,4 +1,4 @@
--- What a session keeps of its state, so that its accounts can be written as position records and read again.
+-- The invariant of a session's state, by which its accounts can be written as position records and read again.
 use Rattle.std.specs.Prelude.{◌≡◌, ◌≤◌, List, bytes_eq, false, filter, length, map, true}
 use Rattle.std.specs.List.{AllByRecursion, enumerate_from}
 use Rattle.span_tables.specs.Holdings.{ArePortfolio}
@@ -11,19 +11,19 @@ use Rattle.span_tables.specs.declared.records.Contract.{Contract}
 use Rattle.session.specs.Answers.{State}
 use Rattle.session.specs.near.Kept.{AreOnce}
 
--- what holdings have of each contract, by rising contract number
+-- the nets of the contracts in the holdings that are not 0, by rising contract index
 abbrev pub by_number : List Contract → List Holding → List Holding
 by_number contracts holdings =
     filter is_held (map (λ n. record { contract = n.0; net = net_among holdings n.0 }) (enumerate_from 0 contracts))
 
--- an account under a name, with a portfolio that has one holding at most of each contract
+-- the account's name is valid, and its portfolio has at most one holding of each contract
 pub record IsKeptAccount (contracts : List Contract) (p : AccountHoldings) : Type 0 where
   pub named : is_name p.account ≡ true
   pub portfolio : ArePortfolio p.holdings
   pub numbered : by_number contracts p.holdings ≡ p.holdings
 
--- No two contracts have one id, and each id is a name. No account is there twice, there are no more than there may be, and
--- each is kept.
+-- Contract ids are distinct, and each id is a name. Accounts are distinct, within the limit, and each is a kept
+-- account.
 pub record IsKeptState (s : State) : Type 0 where
   pub apart : has_repeat (λ x y. bytes_eq x.id y.id) s.tables.contracts ≡ false
   pub named : AllByRecursion (λ x. is_name x.id ≡ true) s.tables.contracts

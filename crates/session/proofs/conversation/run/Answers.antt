@@ -11,7 +11,7 @@ use Rattle.desks.specs.declared.desk.Taken.TheVariants as taken
 use Rattle.session.proofs.ConversationLemmas.{first_log, log_asked, log_more, no_turns, nothing_more, one_more_turn, state_behind_more}
 use Rattle.session.proofs.conversation.run.Goals as goal
 
--- what was handed over is a request, since it is not their end
+-- the desk handed over a request, since it was not the end of the requests
 asked_for : (t : Taken) (is_kept : Bool) (line : List ℕ) (request : Option (List ℕ)) (old new : List Event)
     → false ≡ sameb the_type t taken.End → is_kept ≡ sameb the_type t taken.Line → request ≡ (if is_kept then Some line else None)
     → new ≡ old ++ asked_by (Ok t) line → new ≡ old ++ Asked request ∷ []
