@@ -1,4 +1,4 @@
-//! A calendar spread with a spot month, under a set and under the next.
+//! A calendar spread with a spot month, under a parameter set and under the next one.
 
 /// Two tiers with a spread between them, and a spot month in the first:
 /// `tests/cases/two-tier-spread-and-spot-month/params.csv`.
@@ -13,7 +13,8 @@ INTRA,AA,1,250,1,A,1,2,B,1
 SPOT,AA,202503,10,20
 ";
 
-/// The next set: each spread costs 300, and not 250: `tests/cases/next-set-with-a-higher-rate/next.csv`.
+/// The next parameter set, in which each spread costs 300 instead of 250:
+/// `tests/cases/next-set-with-a-higher-rate/next.csv`.
 pub const NEXT: &[u8] = b"\
 SET,D2,1,USD
 COMMODITY,AA,0,SUM
@@ -25,7 +26,7 @@ INTRA,AA,1,300,1,A,1,2,B,1
 SPOT,AA,202503,10,20
 ";
 
-/// A next set that lacks FA2, which is held: `tests/cases/next-set-lacks-a-held-contract/next.csv`.
+/// A next parameter set that lacks the held contract FA2: `tests/cases/next-set-lacks-a-held-contract/next.csv`.
 pub const NEXT_WITHOUT_A_CONTRACT: &[u8] = b"\
 SET,D2,1,USD
 COMMODITY,AA,0,SUM
@@ -36,7 +37,7 @@ INTRA,AA,1,300,1,A,1,2,B,1
 SPOT,AA,202503,10,20
 ";
 
-/// What a check of the first set says of it: `tests/cases/counts-of-a-full-file/stdout`.
+/// The output of `span check` for the first parameter set: `tests/cases/counts-of-a-full-file/stdout`.
 pub const COUNTS: &[u8] = b"OK,D1,1,2,2,1,1,0\n";
 
 /// An account that is long three of the near month and short two of the far one:
@@ -46,14 +47,14 @@ X,FA,3
 X,FA2,-2
 ";
 
-/// One at 1200, two spreads at 250, one month left at 20 and two spreads of it at 10:
+/// A scan risk of 1200, two spreads at 250, one outright future of the spot month at 20, and two in spreads at 10:
 /// `tests/cases/two-tier-spread-and-spot-month/stdout`.
 pub const STATEMENT: &[u8] = b"\
 R,X,D1,AA,1200,13,500,40,0,0,1740
 T,X,D1,1740
 ";
 
-/// The account explained: two spreads of 250 form, which leaves one of the near month:
+/// The explanation of the account. Two spreads at 250 form, which leaves one future of the near month:
 /// `tests/cases/two-tier-spread-and-spot-month-explained/stdout`.
 pub const EXPLANATION: &[u8] = b"\
 HELD,X,D1,AA,FA,F,202503,3
@@ -70,7 +71,7 @@ R,X,D1,AA,1200,13,500,40,0,0,1740
 T,X,D1,1740
 ";
 
-/// The statement, and behind it the one under the next set, with two spreads at 300:
+/// The statement, followed by the statement under the next parameter set, with two spreads at 300:
 /// `tests/cases/next-set-with-a-higher-rate/stdout`.
 pub const BOTH_STATEMENTS: &[u8] = b"\
 R,X,D1,AA,1200,13,500,40,0,0,1740

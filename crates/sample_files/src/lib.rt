@@ -1,5 +1,6 @@
-//! Parameter and position files that tests of more than one crate read, each with its statement as it was worked by hand.
-//! The crate has no code: `tools/samples` writes the constants' bytes from the cases that their comments name.
+//! Parameter and position files that tests of more than one crate use, each with its statement, which was worked out by
+//! hand. The crate has no code: `tools/samples` writes the bytes of the constants from the cases that their comments
+//! name.
 #![tactic(auto)]
 
 pub mod calendar;

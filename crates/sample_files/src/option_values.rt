@@ -1,6 +1,6 @@
 //! A commodity with a call and a put that have values, under version 2.
 
-/// A call worth 120 and a put worth 80, and what a short option costs at least:
+/// A call worth 120 and a put worth 80, and a short option minimum of 500:
 /// `tests/cases/short-options-with-value/params.csv`.
 pub const PARAMS: &[u8] = b"\
 SET,D2,2,USD
@@ -15,7 +15,7 @@ X,CA,-2
 X,PA,-3
 ";
 
-/// Five short options at 500, and 480 to bring after it: twice 120 and three times 80:
+/// Five short options at 500, and an option value of -480, which is twice -120 plus three times -80:
 /// `tests/cases/short-options-with-value/stdout`.
 pub const STATEMENT: &[u8] = b"\
 R,X,D2,AA,40,11,0,0,0,2500,2500

@@ -1,4 +1,4 @@
-//! Three commodities with two spreads between them, of which the second has what the first left.
+//! Three commodities with two spreads between them. The second spread uses what the first leaves.
 
 /// Three commodities with a future each, and two intercommodity spreads:
 /// `tests/cases/three-commodities-two-spreads/params.csv`.
@@ -14,7 +14,7 @@ INTER,1,5000,AA,A,1,BB,B,1
 INTER,2,2000,AA,A,1,CC,B,1
 ";
 
-/// An account that is long in the first commodity, and short in each other:
+/// An account that is long in the first commodity, and short in the other two:
 /// `tests/cases/three-commodities-two-spreads/positions.csv`.
 pub const POSITIONS: &[u8] = b"\
 X,FA,3
@@ -22,8 +22,8 @@ X,FB,-1
 X,FC,-1
 ";
 
-/// Three at 1200, which earn half of 1200 and a fifth of 1200; half of 900; a fifth of 300:
-/// `tests/cases/three-commodities-two-spreads/stdout`.
+/// Three long futures at 1200, credited with half of 1200 and a fifth of 1200. The other two are credited with half of
+/// 900 and a fifth of 300: `tests/cases/three-commodities-two-spreads/stdout`.
 pub const STATEMENT: &[u8] = b"\
 R,X,D1,AA,3600,13,0,0,840,0,2760
 R,X,D1,BB,900,11,0,0,450,0,450

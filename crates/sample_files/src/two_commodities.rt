@@ -11,14 +11,14 @@ CONTRACT,FB,BB,F,202503,1,1,0,0,-300,-300,300,300,-600,-600,600,600,-900,-900,90
 INTER,1,5000,AA,A,1,BB,B,1
 ";
 
-/// An account that is long one in the first commodity, and short two in the second:
+/// An account that is long one future in the first commodity, and short two in the second:
 /// `tests/cases/two-commodities-one-credit/positions.csv`.
 pub const POSITIONS: &[u8] = b"\
 X,FA,1
 X,FB,-2
 ";
 
-/// One at 1200, of which half is credited; two at 900, and half of 900:
+/// One future at 1200, credited with half of it, and two at 900, credited with half of 900:
 /// `tests/cases/two-commodities-one-credit/stdout`.
 pub const STATEMENT: &[u8] = b"\
 R,X,D1,AA,1200,13,0,0,600,0,600
@@ -26,14 +26,14 @@ R,X,D1,BB,1800,11,0,0,450,0,1350
 T,X,D1,1950
 ";
 
-/// Two accounts, one long one in the first commodity, the other short two in the second:
+/// Two accounts: one is long one future in the first commodity, the other is short two in the second:
 /// `tests/cases/records-of-two-orders-scattered/positions.csv`.
 pub const TWO_ACCOUNTS: &[u8] = b"\
 X,FA,1
 Y,FB,-2
 ";
 
-/// An order of each account, the second one's first, their records by turns:
+/// An order of each account. The second account's order comes first, and the records of both alternate:
 /// `tests/cases/records-of-two-orders-scattered/orders.csv`.
 pub const ORDERS: &[u8] = b"\
 SWAP,Y,FA,1
@@ -42,7 +42,7 @@ SWAP,Y,FB,1
 HEDGE,X,FB,-1
 ";
 
-/// Each order leaves its account with both commodities, of which one earns a credit of the other:
+/// With its order, each account holds both commodities, and each commodity earns a credit:
 /// `tests/cases/records-of-two-orders-scattered/stdout`.
 pub const CHANGES: &[u8] = b"\
 CHANGE,SWAP,Y,D1,AA,0,600,600
@@ -53,7 +53,7 @@ CHANGE,HEDGE,X,D1,BB,0,1350,1350
 ORDER,HEDGE,X,D1,1200,1950,750
 ";
 
-/// The account explained: one spread forms, at half of what each of its deltas risks:
+/// The explanation of the account. One spread forms, which credits half of the price risk of each delta it uses:
 /// `tests/cases/two-commodities-one-credit-explained/stdout`.
 pub const EXPLANATION: &[u8] = b"\
 HELD,X,D1,AA,FA,F,202503,1
