@@ -1,4 +1,4 @@
-//! What files are once they are read.
+//! The content of sample files.
 ghost use Rattle.span_tables.specs.Holdings.{fits};
 ghost use Rattle.std.specs.Arc.{arc_value};
 ghost use Rattle.std.specs.Prelude.{◌≡◌, All, IfSome, length, true};
@@ -14,19 +14,19 @@ use std::alloc::Global;
 use std::sync::Arc;
 use step_scheduler::jobs::Job;
 
-/// The tables of a parameter file.
+/// Returns the tables of a parameter file.
 pub fn tables_of(alloc: Global, params: &[u8]) -> Option<Tables> {
     let raw = read_params(alloc, params).ok()?;
     check(alloc, raw).ok()
 }
 
-/// The compiled set of a parameter file.
+/// Returns the compiled parameter set of a file.
 pub fn set_of(alloc: Global, params: &[u8]) -> Option<Arc<CompiledSet>> {
     let set = compile(alloc, tables_of(alloc, params)?).ok()?;
     Arc::new(alloc, set).ok()
 }
 
-/// The portfolios of a position file under a set.
+/// Returns the portfolios of a position file under a parameter set.
 pub fn accounts_of(
     alloc: Global,
     set: &Arc<CompiledSet>,
@@ -44,7 +44,7 @@ pub fn accounts_of(
     }
 }
 
-/// The last portfolio of a position file under a set.
+/// Returns the last portfolio of a position file under a parameter set.
 pub fn account_of(alloc: Global, set: &Arc<CompiledSet>, positions: &[u8]) -> Option<Portfolio>
     ensures { IfSome result (λ account.
         fits (length (arc_value set.now).tables.contracts) account.holdings ≡ true) }
@@ -52,7 +52,7 @@ pub fn account_of(alloc: Global, set: &Arc<CompiledSet>, positions: &[u8]) -> Op
     accounts_of(alloc, set, positions)?.pop()
 }
 
-/// The job of the last account of a position file, which has place 0.
+/// Returns the job of the last account of a position file, with index 0 in its batch.
 pub fn job_of(alloc: Global, params: &[u8], positions: &[u8]) -> Option<Arc<Job>>
     ensures { IfSome result (λ job. (arc_value job).place ≡ 0) }
 {

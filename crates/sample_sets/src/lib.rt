@@ -1,5 +1,5 @@
-//! What sample files are once they are read: tables, compiled sets, accounts, jobs and boards. Tests of more than one crate build
-//! them here. Each call answers `None` because memory ran out, and where a file is refused.
+//! The content of sample files: tables, compiled parameter sets, accounts, jobs and boards, for tests of more than one
+//! crate. Each call returns `None` if memory runs out or a file is rejected.
 #![tactic(auto)]
 
 pub mod boards;
