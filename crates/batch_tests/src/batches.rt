@@ -1,4 +1,4 @@
-//! Batches on each number of workers: no clause says that an account has its row where there is memory.
+//! Batches on each number of workers. No contract states that an account gets its row if there is enough memory.
 use plan_compiler::set::CompiledSet;
 use sample_files::one_future::PARAMS;
 use sample_sets::files::{accounts_of, set_of};
@@ -11,7 +11,7 @@ use worker_pool::batch::{MAX_WORKERS, run_batch};
 use worker_pool::gates::OpenGate;
 use worker_pool::outcomes::Outcome;
 
-/// Two accounts in the order of their first appearance, long two futures and short one.
+/// Two accounts in order of first appearance: the first is long two futures, the second is short one.
 pub(crate) const TWO_ACCOUNTS: &[u8] = b"\
 Y,FA,1
 X,FA,-1
@@ -26,7 +26,7 @@ fn is_row(outcome: &Outcome, account: &[u8], total: i128) -> bool {
     }
 }
 
-/// Whether the outcomes are the rows of the two accounts: 1200 for each future.
+/// Returns whether the outcomes are the rows of the two accounts, with 1200 for each future.
 pub(crate) fn are_rows_of_both(outcomes: &[Outcome]) -> bool {
     match outcomes {
         [first, second] => is_row(first, b"Y", 2400) && is_row(second, b"X", 1200),
@@ -34,7 +34,7 @@ pub(crate) fn are_rows_of_both(outcomes: &[Outcome]) -> bool {
     }
 }
 
-// Runs the two accounts on so many workers.
+// Runs the two accounts on a number of workers.
 fn run_both<R: Threads + Wait + Clock + Sync + Abort>(
     rt: &R,
     alloc: Global,

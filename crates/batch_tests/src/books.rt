@@ -1,4 +1,4 @@
-//! A book behind no lock: what it refuses and what it keeps.
+//! A book without a lock: the rows that it rejects and the rows that it keeps.
 use result_book::books::{BookFault, PutRefused, ResultBook};
 use sample_files::one_future::{PARAMS, POSITIONS};
 use sample_sets::files::{account_of, set_of};
@@ -17,7 +17,7 @@ fn row_of_one_future(rt: &impl Abort, alloc: Global) -> Arc<Row> {
     runs.row(account).expect(rt, "a row")
 }
 
-// The row that comes back where it is refused for this reason.
+// The row that is returned if it is rejected for this reason.
 fn refused_for(rt: &impl Abort, put: Result<(), PutRefused>, fault: BookFault) -> Arc<Row> {
     match put {
         Err(refused) if refused.fault == fault => refused.row,
@@ -25,7 +25,7 @@ fn refused_for(rt: &impl Abort, put: Result<(), PutRefused>, fault: BookFault) -
     }
 }
 
-// Puts a row in a batch that was never opened, in the first one, and there again.
+// Puts a row in a batch that was never opened, then in the first batch, then in the first batch again.
 fn put_thrice(rt: &impl Abort, book: &mut ResultBook, row: Arc<Row>) {
     let row = refused_for(rt, book.put(7, row), BookFault::NoSuchBatch);
     let again = Arc::try_clone(&row).expect(rt, "a hold on the row");

@@ -1,6 +1,6 @@
-//! Each call of `worker_pool` that may give up, once, where there is memory: no clause says that it succeeds.
+//! Each call of `worker_pool` that may fail, once, with enough memory. No contract states that it succeeds.
 //!
-//! The calls of deques and of the queue are those of `front_and_back`.
+//! `front_and_back` makes the calls of deques and of the queue.
 use crate::batches::{TWO_ACCOUNTS, are_rows_of_both};
 use plan_compiler::set::CompiledSet;
 use sample_files::one_future::{PARAMS, POSITIONS};
@@ -15,7 +15,7 @@ use worker_pool::gates::OpenGate;
 use worker_pool::plain::{Runs, run_plain};
 use worker_pool::teams::Team;
 
-// One account, which is long one future and loses 1200 at most.
+// One account, which is long one future and loses at most 1200.
 fn of_one(rt: &impl Abort, alloc: Global, set: &Arc<CompiledSet>) {
     let account = account_of(alloc, set, POSITIONS).expect(rt, "an account");
     let mut runs = Runs::new(alloc, set).expect(rt, "runs");

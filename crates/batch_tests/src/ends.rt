@@ -1,4 +1,4 @@
-//! In which order tasks come out of a deque and results out of the queue, on one thread.
+//! The order in which tasks come out of a deque and results out of the queue, on one thread.
 ghost use Rattle.crossbeam_deque.specs.Handles.{IsPassOf as IsDequePassOf, SamePass, SameWorker, stealer_deque};
 ghost use Rattle.crossbeam_deque.specs.Handles.{view as deque_view, worker_view};
 ghost use Rattle.crossbeam_queue.specs.Passes.{IsPassOf, IsSamePass, view};
@@ -22,7 +22,7 @@ use worker_pool::laws::{
     split_queue_pass, steal_task,
 };
 
-// Pushes the next task of a board of the job that is the whole batch, and gives its step.
+// Pushes the next task of a board, whose job is the whole batch, and returns its step.
 fn push_next<B: Batch>(
     rt: &impl Abort,
     owner: &mut Deque<B>,
@@ -44,7 +44,7 @@ fn push_next<B: Batch>(
     step
 }
 
-// Pushes the three tasks that a new board of the job hands out, and gives their steps.
+// Pushes the three tasks that a new board of the job hands out, and returns their steps.
 fn push_three<B: Batch>(
     rt: &impl Abort,
     alloc: Global,
@@ -86,12 +86,14 @@ fn stolen_step<B: Batch>(rt: &impl Abort, thief: &Thief<B>, pass: &mut DequePass
     }
 }
 
-// Whether these are the steps that have no inputs: what is held, and the beginnings of the credits and of the total.
+// Whether these are the steps without inputs: the step that gathers the holdings, and the first steps of the credits
+// and of the total.
 fn are_first_steps(steps: &[usize]) -> bool {
     steps.contains(&0) && steps.contains(&9) && steps.contains(&11)
 }
 
-// Of three tasks a steal gives the first that was pushed, the owner's pop the second, a steal the third.
+// With three tasks, a steal takes the one that was pushed first, a pop of the owner the second, and another steal the
+// third.
 fn tasks_in_order<B: Batch>(rt: &impl Abort, alloc: Global, job: &Arc<Job>)
     requires batch { B.jobs ≡ arc_value job.now ∷ [] }
     requires job { (arc_value job.now).place ≡ 0 }
@@ -108,7 +110,7 @@ fn tasks_in_order<B: Batch>(rt: &impl Abort, alloc: Global, job: &Arc<Job>)
     assert!(rt; pop_task(&mut owner).is_none());
 }
 
-// Pushes the result of the next task of a board of the job that is the whole batch, and gives its step.
+// Pushes the result of the next task of a board, whose job is the whole batch, and returns its step.
 fn push_next_result<B: Batch, R: Wait + Abort>(
     rt: &R,
     alloc: Global,
@@ -148,7 +150,7 @@ fn popped_step<B: Batch, R: Wait + Abort>(
     finished.step()
 }
 
-// Pushes the results of the three tasks that a new board of the job hands out, and gives their steps.
+// Pushes the results of the three tasks that a new board of the job hands out, and returns their steps.
 fn push_three_results<B: Batch, R: Wait + Abort>(
     rt: &R,
     alloc: Global,

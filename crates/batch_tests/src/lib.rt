@@ -1,7 +1,8 @@
-//! Tests of batches of accounts and of the book of their rows, each of what no clause says: that a call which may want memory
-//! succeeds where there is memory; in which order tasks and results come out; and that a book goes by its own batches alone.
+//! Tests of batches of accounts and of the book of their rows. They check what no contract states: calls that may run
+//! out of memory succeed if there is enough, tasks and results come out in order, and a book accepts rows only for its
+//! own batches.
 //!
-//! They stand in a crate of their own, since a crate with tests is proved twice.
+//! The tests have their own crate, because a crate with tests is proved twice.
 #![tactic(auto)]
 
 #[cfg(test)]
