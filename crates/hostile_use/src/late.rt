@@ -1,4 +1,5 @@
-//! A result that comes when its account has its outcome already, because another of its steps ended out of memory.
+//! A result that arrives when its account already has its outcome, because another step of the account ran out of
+//! memory.
 use crate::memory::{TwoAccounts, words_of_two, words_or_no_batch};
 use sample_files::three_commodities::PARAMS;
 use span_tables::name::Name;
@@ -14,14 +15,14 @@ use std::thread::Threads;
 use std::time::Clock;
 use worker_pool::gates::Gate;
 
-/// How often a worker looks whether another has come so far.
+/// The number of times that a worker checks the progress of another.
 const LOOKS: usize = 200_000;
 
-/// How many turns the coordinator leaves a helper to hand its result in.
+/// The number of times that the coordinator yields, so that a helper can hand in its result.
 const TURNS: usize = 10_000;
 
-// Holds a helper with a step of X until the coordinator comes with its first step of Z. The coordinator goes on with X when the
-// helper is held, and with Z when the helper has had time to hand its result in.
+// Holds a helper with a step of X until the coordinator reaches its first step of Z. The coordinator continues with X
+// when the helper is held, and with Z when the helper has had time to hand in its result.
 #[derive(Drop)]
 struct HeldStep {
     held: AtomicBool,
@@ -40,7 +41,7 @@ impl HeldStep {
         }
     }
 
-    // Waits for a word. The first that waited in vain lets everything pass.
+    // Waits for a flag. The first worker that waits too long sets `given_up`, which ends all waiting.
     fn wait_for(&self, word: &AtomicBool) {
         for _ in 0..LOOKS {
             if word.load(SeqCst) || self.given_up.load(SeqCst) {
@@ -51,7 +52,7 @@ impl HeldStep {
         self.given_up.store(true, SeqCst);
     }
 
-    // Whether a helper was held, and let go when the coordinator had come to Z.
+    // Whether a helper was held, and released after the coordinator reached Z.
     fn was_held(&self) -> bool {
         self.freed.load(SeqCst) && !self.given_up.load(SeqCst)
     }
@@ -90,7 +91,7 @@ const HELD_AND_LAST: TwoAccounts = TwoAccounts {
     second_total: 1800,
 };
 
-// What the two accounts have on two workers.
+// The results of the two accounts on two workers.
 fn two_accounts<R: Threads + Wait + Clock + Sync + Abort>(
     rt: &R,
     alloc: Global,
@@ -99,8 +100,8 @@ fn two_accounts<R: Threads + Wait + Clock + Sync + Abort>(
     words_of_two(rt, alloc, &HELD_AND_LAST, 2, gate)
 }
 
-// With ample memory a held result is not late, since its account waits for it. Where another step of X ended out of memory,
-// it is: it changes nothing of X, and Z has its row.
+// With enough memory a held result is not late, because its account waits for it. If another step of X ran out of
+// memory, the held result is late: it does not change the outcome of X, and Z gets its row.
 #[test]
 fn result_after_the_outcome(rt: HostRuntime) -> Result<(), Fail> {
     let alloc = rt.alloc();

@@ -1,7 +1,7 @@
-//! Tests of hostile use, of what needs the crates of every stage at once: memory that is refused. The crate has no code of its own.
+//! Tests of hostile use that need the crates of every stage: allocations that fail. The crate has no code of its own.
 //!
-//! Each test of `memory` and `late` does the same with ample memory, where this crate's tests are run, and with one growth of memory
-//! refused, where `tests/memory` at the top of the repository runs it: once for each growth.
+//! Each test of `memory` and `late` runs in two ways: with enough memory, as a test of this crate, and with one failing
+//! allocation, in `tests/memory` at the top of the repository, once for each allocation.
 #![tactic(auto)]
 
 #[cfg(test)]

@@ -1,5 +1,5 @@
-//! What calls answer where one growth of memory is refused: what they answer with ample memory, or out of memory.
-//! Nothing is lost then, and the next call works: a case that was refused is run once more, and has to come to its end.
+//! The results of calls if one allocation fails: the same as with enough memory, or out of memory. Nothing is lost
+//! then, and the next call works: a case that failed is run once more, and must then succeed.
 ghost use Rattle.std.specs.Arc.{arc_value};
 ghost use Rattle.std.specs.Prelude.{◌≡◌, All, IfOk, length, true};
 ghost use Rattle.span_tables.specs.Holdings.{fits};
@@ -46,7 +46,7 @@ use worker_pool::gates::{Gate, OpenGate};
 use worker_pool::outcomes::Outcome;
 use worker_pool::plain::run_plain;
 
-// Whether a case is to be run once more: it ended out of memory, and nothing else went wrong.
+// Whether a case has to be run once more: it ran out of memory, and nothing else went wrong.
 fn was_refused(answer: Result<(), SpanFault>) -> Result<bool, SpanFault> {
     match answer {
         Ok(()) => Ok(false),
@@ -55,7 +55,7 @@ fn was_refused(answer: Result<(), SpanFault>) -> Result<bool, SpanFault> {
     }
 }
 
-// Reading and binding the positions, of one account.
+// Reads and binds the positions of one account.
 fn positions_bound<R: Abort>(
     rt: &R,
     alloc: Global,
@@ -67,7 +67,7 @@ fn positions_bound<R: Abort>(
     Ok(portfolios)
 }
 
-// Reading and binding two orders, one of that account.
+// Reads and binds two orders, one of them of that account.
 fn orders_bound(
     alloc: Global,
     tables: &Tables,
@@ -78,7 +78,7 @@ fn orders_bound(
     Ok(orders)
 }
 
-// What the accounts hold with an order each.
+// The holdings of each order's account after the order.
 fn orders_tried<R: Abort>(rt: &R, alloc: Global, orders: &Orders) -> Result<(), SpanFault> {
     assert_eq!(rt; orders.len(), 2);
     let after = orders
@@ -95,7 +95,7 @@ fn under_tables<R: Abort>(rt: &R, alloc: Global, tables: &Tables) -> Result<(), 
     orders_tried(rt, alloc, &orders)
 }
 
-// Reading and checking the parameters, what comes under them, and compiling.
+// Reads and checks the parameters, runs the stages under them, and compiles them.
 fn each_stage<R: Abort>(rt: &R, alloc: Global) -> Result<(), SpanFault> {
     let tables = check(alloc, read_params(alloc, PARAMS)?)?;
     under_tables(rt, alloc, &tables)?;
@@ -184,7 +184,7 @@ fn orders_on_one_worker_and_on_four(rt: HostRuntime) -> Result<(), Fail> {
     Ok(())
 }
 
-// All faults of two files, as these lines.
+// All faults of two files have these lines.
 fn told<R: Abort>(
     rt: &R,
     alloc: Global,
@@ -198,7 +198,7 @@ fn told<R: Abort>(
     Ok(())
 }
 
-// Faults of reading both files; then those of binding positions to a set that is accepted.
+// Faults of reading both files, then faults of binding positions to an accepted parameter set.
 fn all_told<R: Abort>(rt: &R, alloc: Global) -> Result<(), SpanFault> {
     let params = b"SET,D1,1\nCOMMODITY,AA,x,SUM\n".as_slice();
     let lines = b"\
@@ -228,7 +228,7 @@ fn all_faults(rt: HostRuntime) -> Result<(), Fail> {
     Ok(())
 }
 
-// The word for an outcome of this account, which has this total where it has a row.
+// The word for an outcome of this account, which must have this total if it has a row.
 fn word_of(outcome: &Outcome, account: &[u8], total: i128) -> Option<&'static str> {
     match outcome {
         Outcome::Margined(row) => {
@@ -239,7 +239,7 @@ fn word_of(outcome: &Outcome, account: &[u8], total: i128) -> Option<&'static st
     }
 }
 
-/// Two accounts under a parameter file, with the totals that they have where memory allows.
+/// Two accounts under a parameter file, with the totals that they have if there is enough memory.
 pub(crate) struct TwoAccounts {
     pub(crate) params: &'static [u8],
     pub(crate) positions: &'static [u8],
@@ -288,7 +288,7 @@ fn words_of(
     }
 }
 
-/// The words for the outcomes of a batch, or for one that was refused memory.
+/// Returns the words for the outcomes of a batch, or the words for a batch that ran out of memory.
 pub(crate) fn words_or_no_batch(
     answer: Result<(&'static str, &'static str), SpanFault>,
 ) -> Result<(&'static str, &'static str), SpanFault> {
@@ -299,7 +299,7 @@ pub(crate) fn words_or_no_batch(
     }
 }
 
-/// What a batch of two accounts gives for each of them.
+/// Runs a batch of two accounts and returns the word for the outcome of each.
 pub(crate) fn words_of_two<R: Threads + Wait + Clock + Sync + Abort, G: Gate>(
     rt: &R,
     alloc: Global,
@@ -330,7 +330,7 @@ fn two_accounts<R: Threads + Wait + Clock + Sync + Abort>(
     words_of_two(rt, alloc, &LONG_AND_SHORT, 1, &OpenGate)
 }
 
-// It says what each account has, so that one can see that an account without memory does not take the next one's row.
+// Prints the outcome of each account, to show that an account without memory does not get the row of the next one.
 #[test]
 fn batch_of_two_accounts(rt: HostRuntime) -> Result<(), Fail> {
     let alloc = rt.alloc();
@@ -359,7 +359,7 @@ fn total_in(book: &ResultBook, batch: u64) -> Option<i128> {
     Some(book.get(batch, &name)?.total().get())
 }
 
-// Puts a row in a batch. Where that is refused, nothing is there, and the same put again is not refused.
+// Puts a row in a batch. If this fails, the batch is still empty, and a second attempt succeeds.
 fn put_again(
     rt: &impl Abort,
     book: &mut ResultBook,
@@ -395,7 +395,7 @@ fn put(rt: HostRuntime) -> Result<(), Fail> {
     Ok(())
 }
 
-// Publishes a set. Where that is refused, nothing is current, and the same again is not refused.
+// Publishes a parameter set. If this fails, no set is current, and a second attempt succeeds.
 fn publish_again<S: ShelfName, R: Wait + Abort>(
     rt: &R,
     publisher: &mut Publisher<S, &R>,
@@ -412,7 +412,7 @@ fn publish_again<S: ShelfName, R: Wait + Abort>(
     }
 }
 
-// The reader finds the first publication, of twelve steps, once it has learned of it.
+// The reader finds the first publication, whose plan has twelve steps, once it has learned of it.
 fn finds_first<S: ShelfName, R: Wait + Abort>(
     rt: &R,
     reader: &mut Reader<S>,
@@ -449,8 +449,8 @@ fn publish(rt: HostRuntime) -> Result<(), Fail> {
     Ok(())
 }
 
-// Two statements, or out of memory after the rows that were put before it, which have these totals. A shelf that cannot be read
-// because memory ran out is answered as a shelf without the set.
+// Two statements, or out of memory. `totals` are the totals of the rows that were put before. A shelf that cannot be
+// read because memory ran out is reported as a shelf without the parameter set.
 fn is_roll<R: Abort>(
     rt: &R,
     totals: [Option<i128>; 2],
@@ -497,7 +497,8 @@ fn rolled(rt: HostRuntime) -> Result<(), Fail> {
     Ok(())
 }
 
-// The next task of a board that has one. Out of memory, the board is as it was and gives it then.
+// The next task of a board that has one. If memory runs out, the board is unchanged and hands out the task at the
+// second attempt.
 fn next_task<R: Abort>(rt: &R, board: &mut Board) -> Result<Task, SpanFault>
     ensures board { board.new.job ≡ board.old.job }
     ensures task { IfOk result (λ task. task.job ≡ board.old.job) }
@@ -510,7 +511,7 @@ fn next_task<R: Abort>(rt: &R, board: &mut Board) -> Result<Task, SpanFault>
     Ok(board.take_ready()?.expect(rt, "a task"))
 }
 
-// A board that has failed takes no result, of this job's first task, and hands nothing out.
+// A failed board accepts no result, here of the first task of this job, and hands out no task.
 fn is_failed<R: Abort>(
     rt: &R,
     alloc: Global,
@@ -529,7 +530,7 @@ fn is_failed<R: Abort>(
     Ok(())
 }
 
-// Each step of a board of this job: a value is kept, and the mark of out of memory makes the board fail.
+// Runs each step of a board of this job. A value is kept, and the error flag for out of memory makes the board fail.
 fn run<R: Abort>(rt: &R, alloc: Global, job: &Arc<Job>, board: &mut Board) -> Result<(), SpanFault>
     requires { board.old.job ≡ arc_value job.now }
     ensures { board.new.job ≡ board.old.job }
