@@ -1,5 +1,6 @@
-//! Each public call of `statement`, `explanation`, `whatif`, `reasons` and `worker_teams` whose clause lets it give up, for want of
-//! memory or where a writer fails: that it succeeds where there is memory and nothing fails, once.
+//! Each public call of `statement`, `explanation`, `whatif`, `reasons` and `worker_teams` whose contract permits it to
+//! fail, because memory runs out or a writer fails. Each is called once, with enough memory and no failing writer, and
+//! must succeed.
 ghost use Rattle.span_tables.specs.Holdings.{fits};
 ghost use Rattle.std.specs.Prelude.{◌≡◌, ◌<◌, length, true};
 
@@ -52,7 +53,7 @@ const PLAN: &[u8] = b"\
 12 TotalAdd(0) 11 8
 ";
 
-// What is said of a parameter file by itself.
+// The check and the plan of a parameter file by itself.
 fn of_parameters(rt: &impl Abort, alloc: Global) {
     let counts = check_plain(alloc, calendar::PARAMS).expect(rt, "counts");
     assert_eq!(rt; counts.as_slice(), calendar::COUNTS);
@@ -63,7 +64,7 @@ fn of_parameters(rt: &impl Abort, alloc: Global) {
     assert_eq!(rt; counts.as_slice(), calendar::COUNTS);
 }
 
-// The statement of two files, alone and on workers.
+// The statement of two files, without and with workers.
 fn of_two_files<R: Threads + Wait + Clock + Sync + Abort>(rt: &R, alloc: Global) {
     let params = two_commodities::PARAMS;
     let positions = two_commodities::POSITIONS;
@@ -73,7 +74,7 @@ fn of_two_files<R: Threads + Wait + Clock + Sync + Abort>(rt: &R, alloc: Global)
     assert_eq!(rt; text.as_slice(), two_commodities::STATEMENT);
 }
 
-// The statements under two sets.
+// The statements under two parameter sets.
 fn of_two_sets<R: Threads + Wait + Clock + Sync + Abort>(rt: &R, alloc: Global) {
     let book = Mutex::new(ResultBook::new(alloc));
     let text = roll(
@@ -125,7 +126,7 @@ fn of_rows(rt: &impl Abort, alloc: Global) {
     assert_eq!(rt; out.as_slice(), two_commodities::STATEMENT);
 }
 
-// The statement of two files that two workers read, bind and margin.
+// The statement of two files that two workers read, bind and evaluate.
 fn of_rows_together<R: Threads + Wait + Clock + Sync + Abort>(rt: &R, alloc: Global) {
     let params = two_commodities::PARAMS;
     let positions = two_commodities::POSITIONS;
@@ -147,7 +148,7 @@ fn total_of(outcome: &Outcome) -> Option<i128> {
     }
 }
 
-// The outcomes of two accounts, each of a team: the first earns a credit, the second has two at 900.
+// The outcomes of two accounts, each computed by a team: the first earns a credit, the second holds two futures at 900.
 fn of_teams<R: Threads + Wait + Clock + Sync + Abort>(rt: &R, alloc: Global) {
     let positions = b"X,FA,1\nX,FB,-2\nY,FB,2\n";
     let Accepted {
@@ -174,7 +175,7 @@ fn of_reasons(rt: &impl Abort, alloc: Global) {
     assert_eq!(rt; text.as_slice(), two_commodities::EXPLANATION);
 }
 
-// The explanations of two accounts, in the order in which the accounts first appear.
+// The explanations of two accounts, in order of first appearance.
 fn of_two_accounts(rt: &impl Abort, alloc: Global) {
     let positions = b"Y,FA,-3\nX,FA,1\nY,FA,4\n";
     let text = explain(alloc, one_future::PARAMS, positions, None).expect(rt, "explanations");
@@ -188,7 +189,7 @@ fn of_two_accounts(rt: &impl Abort, alloc: Global) {
     assert_eq!(rt; text.as_slice(), expected.as_slice());
 }
 
-// What two orders change, alone and on workers.
+// The changes of two orders, without and with workers.
 fn of_orders<R: Threads + Wait + Clock + Sync + Abort>(rt: &R, alloc: Global) {
     for workers in [1usize, 2] {
         let text = whatif(
@@ -205,7 +206,7 @@ fn of_orders<R: Threads + Wait + Clock + Sync + Abort>(rt: &R, alloc: Global) {
     }
 }
 
-// The reasons for the figures of the first commodity, under the ids of an account of a calendar spread.
+// The explanation lines of the first commodity, for an account with a calendar spread.
 fn reasons_of(alloc: Global, tables: &Tables, portfolio: &Portfolio) -> Result<Vec<u8>, AllocError>
     requires commodity { 0 < length tables.now.commodities }
     requires fits { fits (length tables.now.contracts) portfolio.now.holdings ≡ true }
@@ -225,7 +226,7 @@ fn accounts_of(rt: &impl Abort, alloc: Global, tables: &Tables) -> Portfolios {
     bind(alloc, tables, &positions).expect(rt, "accounts")
 }
 
-// The reasons, and behind them the statement, are the explanation.
+// The explanation consists of the reasons followed by the statement.
 fn of_stages(rt: &impl Abort, alloc: Global) {
     let tables = tables_of(alloc, calendar::PARAMS).expect(rt, "tables");
     let portfolios = accounts_of(rt, alloc, &tables);

@@ -1,4 +1,5 @@
-//! The lines of faults and their statuses, the texts of faults that calls answer, which no clause has, and a line without room.
+//! The lines of faults and their statuses, the texts of faults that calls return, which no contract has, and a line
+//! that does not fit its buffer.
 use binding::faults::BindFault;
 use param_check::faults::CheckFault;
 use plan_shelf::faults::ShelfFault;
@@ -19,7 +20,7 @@ fn account() -> Name {
     Name::new(b"ACC-1").unwrap_or(Name::default())
 }
 
-// Each fault has this line, and this status.
+// Checks that each fault has this line and this status.
 fn have_lines(rt: &impl Abort, alloc: Global, lines: &[(SpanFault, &str, u8)]) {
     for (fault, line, number) in lines {
         let mut written = Vec::new(alloc);
@@ -29,7 +30,7 @@ fn have_lines(rt: &impl Abort, alloc: Global, lines: &[(SpanFault, &str, u8)]) {
     }
 }
 
-// One of each kind that names no account.
+// One fault of each kind that names no account.
 const LINES: [(SpanFault, &str, u8); 9] = [
     (
         SpanFault::Params(ParamFault::NoSet { at: 0 }),
@@ -66,7 +67,7 @@ const LINES: [(SpanFault, &str, u8); 9] = [
     (SpanFault::Memory, "memory\n", 5),
 ];
 
-// One of each kind that names an account.
+// One fault of each kind that names an account.
 fn lines_of_accounts(rt: &impl Abort, alloc: Global) {
     let bound = BindFault::NetOutOfRange {
         at: 3,
@@ -102,13 +103,13 @@ fn lines_of_faults(rt: HostRuntime) {
     lines_of_accounts(&rt, rt.alloc());
 }
 
-// The value is shown as this text.
+// Checks that the value is displayed as this text.
 fn is_shown<T: Display>(rt: &impl Abort, alloc: Global, value: &T, text: &str) {
     let shown = format!(in alloc; "{value}").expect(rt, "a text");
     assert_eq!(rt; shown.as_str(), text);
 }
 
-// The texts of faults that calls answer and no statement is refused with.
+// The texts of faults that calls return, but that are not a reason to reject a statement.
 fn of_calls(rt: &impl Abort, alloc: Global) {
     is_shown(rt, alloc, &ShelfFault::Readers, "Readers");
     is_shown(rt, alloc, &ShelfFault::Last, "Last");
@@ -124,7 +125,7 @@ fn texts_of_faults(rt: HostRuntime) {
     of_calls(&rt, rt.alloc());
 }
 
-// A writer that has no room for the whole line refuses it.
+// A writer without room for the whole line fails.
 #[test]
 fn line_without_room(rt: HostRuntime) {
     let fault = SpanFault::Bind(BindFault::TooManyHeld {

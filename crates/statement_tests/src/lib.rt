@@ -1,7 +1,8 @@
-//! Tests of statements and of their reasons, from the teams of workers up: of what no clause says, as that the calls succeed where
-//! there is memory, that a roll has a second thread, that a writer which fails is remembered, and the texts of faults.
+//! Tests of statements and of their reasons, from the teams of workers up. They check what no contract states: calls
+//! succeed if there is enough memory, a roll has a second thread, a failed write is remembered, and the texts of
+//! faults.
 //!
-//! They stand in a crate of their own, since a crate with tests is proved twice.
+//! The tests have their own crate, because a crate with tests is proved twice.
 #![tactic(auto)]
 
 #[cfg(test)]

@@ -1,4 +1,4 @@
-//! Writers that fail: no clause says when a write does.
+//! Writers that fail. No contract states when a write fails.
 use std::fmt;
 use std::fmt::{Display, Formatter};
 use std::io::Write;
@@ -31,7 +31,7 @@ fn remembers_a_failed_write(rt: HostRuntime) -> Result<(), Fail> {
     let mut told = MarkedWriter::new(&mut room[..]);
     assert!(rt; told.write_all(b"1234").is_ok() && !told.failed());
     assert!(rt; told.write_all(b"56").is_err() && told.failed());
-    // A write of nothing succeeds, and takes nothing back.
+    // A write of no bytes succeeds, and does not clear the error flag.
     assert!(rt; told.write_all(b"").is_ok() && told.failed());
     assert!(rt; writeln!(told, "7").is_err() && told.failed());
     Ok(())

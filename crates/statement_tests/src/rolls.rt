@@ -1,4 +1,5 @@
-//! Rolls: the bytes of both statements, the thread beside the first batch, and what stays in the book.
+//! Rolls: the bytes of both statements, the thread that runs concurrently with the first batch, and the rows that stay
+//! in the book.
 use binding::faults::BindFault;
 use result_book::books::ResultBook;
 use sample_files::calendar::{BOTH_STATEMENTS, NEXT, NEXT_WITHOUT_A_CONTRACT, PARAMS, POSITIONS};
@@ -18,7 +19,7 @@ use step_scheduler::rows::Row;
 use worker_pool::batch::MAX_WORKERS;
 use worker_pool::gates::{Gate, OpenGate};
 
-// A roll from the first set to the next gives both statements.
+// Checks that a roll from the first parameter set to the next one returns both statements.
 fn gives_both<R: Threads + Wait + Clock + Sync + Abort, G: Gate>(
     rt: &R,
     alloc: Global,
@@ -41,8 +42,8 @@ fn two_statements_on_each_number_of_workers(rt: HostRuntime) {
     }
 }
 
-// The thread of the next set and the first step of the first batch wait for each other. When the turns of one of them are used up,
-// it is too late, and nothing waits any more.
+// The thread of the next parameter set and the first step of the first batch wait for each other. If one of them waits
+// too long, `late` is set, and both stop waiting.
 #[derive(Drop)]
 struct Beside {
     of_set: AtomicBool,
@@ -86,7 +87,7 @@ fn the_next_set_beside_the_first_batch(rt: HostRuntime) {
     assert!(rt; !gate.late.load(SeqCst));
 }
 
-// Whether a batch has one row, of the account X under this set, with this total.
+// Whether a batch has only one row, which has the account X, this parameter set and this total.
 fn is_only_row(rows: &[Arc<Row>], id: &[u8], total: i128) -> bool {
     match rows {
         [row] => {
@@ -108,7 +109,8 @@ fn rows_of_both_batches_in_the_book(rt: HostRuntime) {
     assert!(rt; book.rows(3).expect(&rt, "no rows").is_empty());
 }
 
-// A roll with this next set is refused so, and what the first batch put stays in the book.
+// Checks that a roll with this next parameter set fails with this fault, and that the rows of the first batch stay in
+// the book.
 fn rows_stay<R: Threads + Wait + Clock + Sync + Abort>(
     rt: &R,
     alloc: Global,
@@ -131,7 +133,7 @@ fn rows_of_the_first_batch_stay(rt: HostRuntime) {
     rows_stay(&rt, rt.alloc(), b"", no_set);
 }
 
-// How many of the first four batches have this row alone.
+// The number of the first four batches that have only this row.
 fn batches_with(rt: &impl Abort, book: &ResultBook, id: &[u8], total: i128) -> usize {
     let mut found = 0usize;
     for batch in 1..5 {

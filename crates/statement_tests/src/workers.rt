@@ -1,10 +1,10 @@
-//! Statements on many workers: no clause says that an account has its row where there is memory.
+//! Statements on many workers. No contract states that an account gets its row if there is enough memory.
 use sample_files::three_commodities::{PARAMS, POSITIONS, STATEMENT};
 use statement::margin::margin;
 use worker_pool::batch::MAX_WORKERS;
 use worker_pool::gates::OpenGate;
 
-// Sixteen workers share the steps of one account, and each run gives the same bytes.
+// Sixteen workers share the steps of one account, and each run prints the same bytes.
 #[test]
 fn a_hundred_statements_on_sixteen_workers(rt: HostRuntime) {
     for _ in 0..100 {
