@@ -1,4 +1,4 @@
--- Under profile 1 no contract of a file has an option value, and neither has a holding.
+-- Under profile 1 no contract of a file has an option value, and no holding has a value.
 use Rattle.std.proofs.Common.{◌≡◌, ◌∙◌, ℕ, zero, suc, ◌+◌, Bool, true, false, cond, List, [], ◌∷◌, length, Option, Some, None}
 use Rattle.std.proofs.Common.{Result, Ok, Err, IfSome, refl, sym, ap, subst, arith, filter, option_map, slice_get}
 use Rattle.std.specs.Prelude.{All, ℤ, pos, ◌*ℤ◌, bytes_eq}

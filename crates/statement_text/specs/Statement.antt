@@ -30,7 +30,7 @@ figures_line account set_id commodity f = record {
 unfoldable pub total_line : List ℕ → List ℕ → List ℤ → Line
 total_line account set_id numbers = record { word = codes "T"; fields = account ∷ set_id ∷ map signed_decimal numbers }
 
--- the line of an account for the commodity with an index, if the account holds a contract of it
+-- the line of an account for the commodity with this index, if the account holds a contract of it
 abbrev pub commodity_text : AcceptedTables → AccountHoldings → ℕ → List ℕ
 commodity_text t p c =
     if is_commodity_held t p.holdings c

@@ -44,8 +44,8 @@ fn push_commodity(
     push_line_of_numbers(out, "R", &ids, &figures.numbers())
 }
 
-/// Appends the line of an account for the commodity with an index (docs/FORMATS.md, Statement: the R line). Appends
-/// nothing if the account holds no contract of it.
+/// Appends the line of an account for the commodity with index `number` (docs/FORMATS.md, Statement: the R line).
+/// Appends nothing if the account holds no contract of it.
 pub fn push_commodity_of(out: &mut Vec<u8>, row: &Row, number: usize) -> Result<(), AllocError>
     requires { number < length row.now.set.tables.commodities }
     ensures { OnOk result (out.new.items

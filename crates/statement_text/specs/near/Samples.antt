@@ -3,7 +3,7 @@ use Rattle.std.specs.Prelude.{ℕ, List, [], ◌++◌, codes}
 
 -- ---- lines
 
--- the SET line of D1
+-- the SET record of D1
 abbrev pub set_d1 : List ℕ
 set_d1 = codes "SET,D1,1,USD\n"
 

@@ -75,8 +75,8 @@ fn tiers()
         ≡ Err (span_fault.Check (check.TierBackwards 3)) }
 {}
 
-// Spreads with an unknown tier; with a duplicate leg, one of them also one-sided; with only one side; and with a
-// duplicate priority.
+// Spreads with an unknown tier, with a duplicate leg, with only one side, and with a duplicate priority. The first
+// spread with a duplicate leg is also one-sided.
 fn spreads()
     ensures unknown_tier { statement_of (one_commodity
         ++ codes "TIER,AA,1,202501,202504\n" ++ codes "INTRA,AA,1,250,1,A,1,2,B,1\n")
