@@ -39,7 +39,7 @@ pub fn tables_of(alloc: Global, params: &[u8]) -> Result<Tables, SpanFault>
     Ok(tables)
 }
 
-// Accepted tables with their plan, behind a shared pointer.
+// Accepted tables with their plan, in an `Arc`.
 fn compiled(alloc: Global, tables: Tables) -> Result<Arc<CompiledSet>, AllocError>
     ensures { IfOk result (λ set. (arc_value set).tables ≡ tables) }
 {
@@ -47,8 +47,7 @@ fn compiled(alloc: Global, tables: Tables) -> Result<Arc<CompiledSet>, AllocErro
     Ok(Arc::new(alloc, set)?)
 }
 
-/// Returns the compiled parameter set of a file, behind a shared pointer, or the first fault in reading it and checking
-/// it.
+/// Returns the compiled parameter set of a file in an `Arc`, or the first fault in reading it and checking it.
 pub fn set_of(alloc: Global, params: &[u8]) -> Result<Arc<CompiledSet>, SpanFault>
     ensures { Gives (λ (set : Arc SetView Global). (arc_value set).tables) result (accepted_of params.now) }
 {

@@ -12,7 +12,7 @@ use Rattle.span_tables.specs.Net.{AccountHoldings}
 abbrev pub AreOnce : List AccountHoldings → Type 0
 AreOnce portfolios = IsDistinct bytes_eq (map (λ p. p.account) portfolios)
 
--- the portfolios are what the positions bind to under the parameter set
+-- the portfolios are those that the positions are bound to under the parameter set
 pub record IsBound (accepted : Accepted) : Type 0 where
   pub portfolios : portfolios_under (arc_value accepted.set).tables accepted.positions ≡ Ok accepted.portfolios
   pub fits : AllFit (arc_value accepted.set) accepted.portfolios
