@@ -313,13 +313,13 @@ fn roll_named<S: ShelfName + Send + Sync, R: Threads + Wait + Clock + Sync, G: G
 /// Otherwise returns the first fault, in this order: the number of workers, the parameters, the positions, the next
 /// parameters, the positions under these. Fails with `Memory` if memory runs out (docs/FORMATS.md, "Faults").
 ///
-/// A separate thread first calls the gate's hook for this thread, then reads, checks and compiles the next parameters and
-/// publishes them on a shelf, while the first batch runs. If no thread can be started, this is done after the first batch. The
-/// second batch runs under the set that the shelf then has.
+/// A separate thread first calls the gate's hook for this thread, then reads, checks and compiles the next parameters
+/// and publishes them on a shelf, while the first batch runs. If no thread can be started, this is done after the first
+/// batch. The second batch runs under the set that the shelf then has.
 ///
-/// The rows of each batch are kept in the book, in the order of the accounts, as a new batch with the next number. No
-/// batch is opened if no account has a row. A book that has no number left fails after the faults of the positions, and
-/// before the faults of the next parameters. Its only other error is out of memory. Rows that were put stay in the
+/// The rows of each batch are kept in the book, in the order of the accounts, as a new batch with the next number. If
+/// an account has no row, no batch is opened. A book that has no number left fails after the faults of the positions,
+/// and before the faults of the next parameters. Its only other error is out of memory. Rows that were put stay in the
 /// book.
 pub fn roll<R: Threads + Wait + Clock + Sync, G: Gate>(
     rt: &R,
