@@ -480,7 +480,7 @@ module _ (params : List ℕ) (t : AcceptedTables) (accepted : accepted_of params
   all_behind records accounts turns bound kept =
       turns_behind turns records (record { tables = t; accounts = accounts }) kept (bound, refl)
 
--- therefore MARGIN answers the statement of a file with these records
+-- therefore the answer to MARGIN is the statement of a file with these records
 pub margin_behind : (params positions more : List ℕ) (s : State) (turns : List Turn) (records : List PositionRecord)
     → opened params positions ≡ Ok s → positions_of positions ≡ Ok records
     → All (λ turn. is_set (request_on turn.request) ≡ false) turns → positions_of more ≡ Ok (records ++ booked_in s turns)

@@ -72,7 +72,7 @@ module _ (set : SetView) (old : List Contract) (all : List AccountHoldings) wher
           ∙ find_behind (is_unknown set.tables.contracts) (held_records old p) (flat_map (held_records old) left) none;
     }
 
-    -- the contract of it that the parameter set lacks is the first lost one
+    -- if the parameter set lacks a contract of this account, this is the first lost contract
     pub first_lost : (held : PositionRecord) → find (is_unknown set.tables.contracts) (held_records old p) ≡ Some held
         → lost_record old set.tables.contracts all ≡ Some held
     first_lost held found =

@@ -1,4 +1,4 @@
--- The lines of position records read as these records.
+-- The lines of position records are read as these records.
 use Rattle.std.proofs.Common.{◌≡◌, ◌∙◌, ◌⊎◌, inl, inr, ℕ, zero, suc, ◌<◌, ◌≤◌, Bool, true, false, cond, ◌&&◌, ◌==◌}
 use Rattle.std.proofs.Common.{List, [], ◌∷◌, ◌++◌, flat_map, length, map, Some, None, Ok, refl, sym, ap, subst, arith, slice_get}
 use Rattle.std.proofs.Common.{append_assoc}
@@ -112,7 +112,7 @@ named_line (b ∷ name) rest is =
 
 -- ---- position records
 
--- a record that can be written and read again: its names are names, and its quantity is in range
+-- a record that can be written and read again: its account and contract are names, and its quantity is in range
 record IsWritable (p : PositionRecord) : Type 0 where
   account : is_name p.account ≡ true
   contract : is_name p.contract ≡ true

@@ -10,7 +10,7 @@ use Rattle.binding.specs.Binding.{is_unknown}
 
 -- ---- one account
 
--- the account with a name, if there is one
+-- the account with this name, if there is one
 abbrev pub account_named : List AccountHoldings → List ℕ → Option AccountHoldings
 account_named accounts name = find (λ p. bytes_eq p.account name) accounts
 

@@ -43,14 +43,14 @@ answer_on s file (Err e) = Err (refused.Form e)
 abbrev pub answer_of : State → Turn → Result Answered Refused
 answer_of s turn = if turn.is_out_of_memory then Err refused.Memory else answer_on s turn.file (request_on turn.request)
 
--- the last line of the answer with a number, and the one line of a refusal
+-- the last line of the answer with this number, and the one line of a refusal
 abbrev pub done_line : ℕ → Line
 done_line n = record { word = codes "done"; fields = decimal n ∷ [] }
 
 abbrev pub refused_line : ℕ → Refused → Line
 refused_line n what = record { word = codes "refused"; fields = decimal n ∷ refusal_text what ∷ [] }
 
--- the text of the answer with a number: its lines and the last one, or the one line of a refusal
+-- the text of the answer with this number: its lines and the last one, or the one line of a refusal
 abbrev pub answer_text : ℕ → Result Answered Refused → List ℕ
 answer_text n (Ok a) = a.lines ++ line (done_line n)
 answer_text n (Err what) = line (refused_line n what)
@@ -96,7 +96,7 @@ pub record AreFromSource {S : Type 0} (known : List ℕ → Option File) (reads 
   pub files : All (IsFromSource known) (files_of turns)
   pub in_order : ReadsAll reads before (reads_of turns) after
 
--- The request with a number was answered: by this turn, from one state to another, and with a text unless memory ran
+-- The request with number `n` was answered: by this turn, from one state to another, and with a text unless memory ran
 -- out.
 pub record IsTurn {S : Type 0} (known : List ℕ → Option File) (reads : S → List ℕ → Bool → S → Type 0) (before : S) (s : State) (n : ℕ)
     (turn : Turn) (after : S) (next : State) (text : List ℕ) : Type 0 where
@@ -116,7 +116,7 @@ abbrev pub state_behind : State → List Turn → State
 state_behind s [] = s
 state_behind s (turn ∷ turns) = state_behind (state_after s (answer_of s turn)) turns
 
--- the answers to requests without their numbers
+-- the answers to requests, without numbers
 abbrev pub outcomes : State → List Turn → List (Result Answered Refused)
 outcomes s [] = []
 outcomes s (turn ∷ turns) = answer_of s turn ∷ outcomes (state_after s (answer_of s turn)) turns

@@ -1,4 +1,4 @@
-//! The accounts of a session and what they hold.
+//! The accounts of a session and their holdings.
 ghost use Rattle.session.specs.Accounts.{account_named, lost_record, position_records, under_contracts, with_account};
 ghost use Rattle.session.specs.Positions.{position_lines};
 ghost use Rattle.session.specs.Refusals.{refused_by};
@@ -108,7 +108,7 @@ impl Accounts {
         self.by_name.len()
     }
 
-    /// Returns the account with a name, if there is one.
+    /// Returns the account with this name, if there is one.
     pub(crate) fn get(&self, name: &Name) -> Option<&Portfolio>
         ensures { option_copied result ≡ account_named self.now name.now }
     {

@@ -14,7 +14,7 @@ use std::fmt;
 use std::fmt::Display;
 use std::io::Write;
 
-/// Appends the last line of the answer to the request with a number.
+/// Appends the last line of the answer to the request with this number.
 pub(crate) fn push_done(out: &mut Vec<u8>, number: u64) -> Result<(), AllocError>
     ensures { OnOk result (out.new.items ≡ out.old.items ++ line (done_line number)) }
 {
@@ -41,7 +41,7 @@ impl Display for RefusedLine<'_> {
     }
 }
 
-/// Appends the one line of the answer to a rejected request with a number.
+/// Appends the one line of the answer to a rejected request with this number.
 pub(crate) fn push_refused(
     out: &mut Vec<u8>,
     number: u64,
@@ -53,7 +53,7 @@ pub(crate) fn push_refused(
     write!(out, "{line}").map_err(|_| AllocError)
 }
 
-/// Returns the line of the answer to a request with a number that is rejected because memory ran out. Allocates
+/// Returns the line of the answer to the request with this number, which is rejected because memory ran out. Allocates
 /// nothing.
 pub(crate) fn refused_memory(number: u64) -> ArrayString<64>
     ensures { result.bytes ≡ line (refused_line number refused.Memory) }

@@ -13,7 +13,7 @@ pub enum RequestFault {
     UnknownRequest,
     /// X3: a request with this name cannot have this number of fields.
     FieldCount,
-    /// X4: an order, account or contract is not a name, or a file name is empty or not UTF-8.
+    /// X4: the name of an order, account or contract is malformed, or a file name is empty or not UTF-8.
     BadName { field: usize },
     /// X5: a quantity is not a whole number.
     BadNumber { field: usize },

@@ -41,7 +41,7 @@ pub enum Request<'a> {
         account: Name,
         trades: Vec<Trade>,
     },
-    /// Trades that an account did.
+    /// Trades that were done for an account.
     Fill {
         account: Name,
         trades: Vec<Trade>,

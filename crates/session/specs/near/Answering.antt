@@ -16,7 +16,7 @@ use Rattle.session.specs.Refusals.{Refused, refused_by}
 use Rattle.session.specs.declared.refusals.Refusal.{Refusal}
 use Rattle.session.specs.declared.refusals.Refusal.TheVariants as refusal
 
--- the refusal means that memory ran out, which no answer of the definition does
+-- the refusal means that memory ran out, which says nothing about the answer of the definition
 abbrev pub is_memory : Refusal → Bool
 is_memory refusal.Memory = true
 is_memory _ = false
@@ -36,7 +36,7 @@ file_read view (Err e) = Err e
 abbrev pub file_given : {X : Type 0} → (X → List ℕ) → Option (Result X ReadFault) → Option File
 file_given view read = option_map (file_read view) read
 
--- the file with a name was read, if there is a name and a result, and no other file was
+-- the file with this name was read, if there is a name and a result, and no other file was
 pub record IsRead {S : Type 0} (known : List ℕ → Option File) (reads : S → List ℕ → Bool → S → Type 0) (before : S)
     (name : Option (List ℕ)) (file : Option File) (after : S) : Type 0 where
   pub files : All (IsFromSource known) (option_to_list (given name file))

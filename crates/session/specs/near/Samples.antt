@@ -27,8 +27,7 @@ two_futures = one_future ++ fa2
 abbrev pub held_futures : List ℕ
 held_futures = codes "X,FA,1\nY,FA2,-1\n"
 
--- another parameter set, which has a further future before the one of the first set, and in which that one has a scan
--- risk of 1500
+-- another parameter set, in which a further future comes before FA, and FA has a scan risk of 1500
 abbrev pub next_set : List ℕ
 next_set =
     codes "SET,D2,1,USD\n" ++ commodity (codes "AA") ++ fa2
