@@ -15,7 +15,7 @@ use std::thread::Threads;
 use std::time::Clock;
 use worker_pool::gates::Gate;
 
-/// The number of times that a worker checks the progress of another.
+/// The number of times that a worker checks the progress of another before it gives up.
 const LOOKS: usize = 200_000;
 
 /// The number of times that the coordinator yields, so that a helper can hand in its result.
