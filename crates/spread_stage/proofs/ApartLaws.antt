@@ -1,4 +1,4 @@
--- What each leg of a spread takes where no two draw on the same rest.
+-- What each leg of a spread uses if no two legs use the same remaining delta.
 use Rattle.std.proofs.Common.{◌≡◌, ℕ, suc, ◌+◌, ◌-◌, ◌*◌, ◌<◌, ◌≤◌, Bool, true, false, cond, not, List, []}
 use Rattle.std.proofs.Common.{◌∷◌, refl, ap, ◌∙◌, arith, map}
 use Rattle.std.specs.Prelude.{ℤ, pos, negsuc, ◌+ℤ◌, ◌-ℤ◌, ◌||◌, nat_lt}
@@ -22,7 +22,7 @@ use Rattle.spread_stage.proofs.FallLemmas.{side_falls}
 use Rattle.spread_stage.proofs.SpreadLemmas.{leg_rise, none_used, within}
 use Rattle.spread_stage.proofs.UseLaws.{side-cons, weight}
 
--- ---- one side of the market keeps its part where the other is used
+-- ---- using one side of the market leaves the other side unchanged
 
 short_kept : (z : ℤ) (u : ℕ) → u ≤ positive_part z → negative_part (z -ℤ pos u) ≡ negative_part z
 short_kept (pos n) u h = let e : pos n -ℤ pos u ≡ pos (n - u) = omega (arith, ints, h) in ap negative_part e
@@ -49,7 +49,7 @@ other_part ALong side.B side.A e z u h = short_kept z u h
 other_part AShort side.B side.A e z u h = long_kept z u h
 other_part d side.B side.B e z u h = cc
 
--- ---- a leg keeps its side where another one draws
+-- ---- a leg that draws apart leaves another leg's side unchanged
 
 other_side : (on : MarketSide) (leg : MonthLeg) (f : MonthUnits → MonthUnits)
     → ((m : MonthUnits) → weight on leg (f m) ≡ weight on leg m) → (ms : List MonthUnits)
@@ -71,7 +71,7 @@ module _ (d : Direction) (leg other : MonthLeg) (needed : ℕ) (rests : List Mon
       ≡ part_on (market_side d leg.side) m.units
   by_side m e = other_part d leg.side other.side e m.units (used m) (within rests (market_side d other.side) other needed m)
 
-  -- a month of the leg's tier alone
+  -- a month outside the other leg's tier keeps its part
   by_tier : (m : MonthUnits) → is_in_tier other m ≡ false
       → part_on (market_side d leg.side) (less_used (market_side d other.side) m.units (used m))
       ≡ part_on (market_side d leg.side) m.units
@@ -154,7 +154,7 @@ module _ (d : Direction) (n : ℕ) where
   from_first leg (other ∷ legs) end rests apart fall =
       (fall.0 ∙ side_kept d other leg (n * leg.ratio) rests (swap_apart leg other apart.0), from_first leg legs end rests apart.1 fall.1)
 
--- each leg's side falls by just what the leg needs
+-- each leg's side falls by exactly what the leg needs
 pub legs_fall : (d : Direction) (n : ℕ) (legs : List MonthLeg) (rests : List MonthUnits) → MonthsRise rests → DrawApart legs
     → AllByRecursion (λ leg. n * leg.ratio ≤ tier_side rests (market_side d leg.side) leg) legs
     → AllByRecursion (λ leg. tier_side (rests_after d n legs rests) (market_side d leg.side) leg + n * leg.ratio

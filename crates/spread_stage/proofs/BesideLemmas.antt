@@ -1,4 +1,4 @@
--- Rests beside their months: what stands beside a month is what is found by its number.
+-- Remaining deltas next to their months: the one at a month's index is the one found by the month's number.
 use Rattle.std.proofs.Common.{◌≡◌, ℕ, zero, suc, ◌<◌, Bool, true, false, cond, List, [], ◌∷◌, length, get_or}
 use Rattle.std.proofs.Common.{refl, sym, ap, ◌∙◌, subst, arith}
 use Rattle.std.specs.Prelude.{pos, ◌==◌, Option, Some, find, option_map, unwrap_or}
@@ -8,7 +8,7 @@ use Rattle.spread_stage.specs.Deltas.{units_at}
 use Rattle.spread_stage.specs.Months.{MonthsRise, Shrinks}
 use Rattle.spread_stage.specs.declared.months.MonthUnits.{MonthUnits}
 
--- ---- what is found by a number
+-- ---- lookup by number
 
 found_if : (b : Bool) (r : MonthUnits) (f : Option MonthUnits) → b ≡ true
     → unwrap_or (option_map (λ (x : MonthUnits). x.units) (cond b (Some r) f)) (pos 0) ≡ r.units
@@ -22,19 +22,19 @@ passed_if true r f e = cc
 passed_if false r f e = refl
 
 module _ (r : MonthUnits) (rests : List MonthUnits) (p : ℕ) where
-  -- the first month is the one
+  -- the first month is the one looked up
   found : r.month ≡ p → units_at (r ∷ rests) p ≡ r.units
   found e =
       let test : (r.month == p) ≡ true = grind (arith, nat_tests) in
       found_if (r.month == p) r (find (λ (x : MonthUnits). x.month == p) rests) test
 
-  -- the first month is an earlier one
+  -- the first month is earlier
   passed : r.month < p → units_at (r ∷ rests) p ≡ units_at rests p
   passed lt =
       let test : (r.month == p) ≡ false = grind (arith, nat_tests) in
       passed_if (r.month == p) r (find (λ (x : MonthUnits). x.month == p) rests) test
 
--- ---- at a place
+-- ---- lookup by index
 
 later : (p : ℕ) (ms : List MonthUnits) → AllByRecursion (λ n. p < n.month) ms → (k : ℕ) (m : MonthUnits) → k < length ms
     → m ≡ get_or ms k m → p < m.month
@@ -42,7 +42,7 @@ later p [] all k m lt at = absurd (omega (arith, lt))
 later p (x ∷ ms) all zero m lt at = subst (λ (y : MonthUnits). p < y.month) (sym at) all.0
 later p (x ∷ ms) all (suc k) m lt at = later p ms all.1 k m (omega (arith, lt)) at
 
--- the rest at the place of a month is the month's, as a loop over both lists finds them
+-- the remaining delta at a month's index is that month's remaining delta, as a loop over both lists finds it
 pub units_at-beside : (months rests : List MonthUnits) → MonthsRise months → Shrinks months rests
     → (k : ℕ) (m r : MonthUnits) → k < length months → m ≡ get_or months k m → r ≡ get_or rests k r
     → units_at rests m.month ≡ r.units
@@ -56,7 +56,7 @@ units_at-beside (x ∷ ms) (y ∷ rs) rise h (suc k) m r lt a b =
     let same : y.month ≡ x.month = h.0 in
     passed y rs m.month (omega (arith, after, same)) ∙ units_at-beside ms rs rise.1 (h.1).1 k m r inside a b
 
--- there are as many rests as months
+-- both lists have the same length
 pub length-rests : (months rests : List MonthUnits) → Shrinks months rests → length rests ≡ length months
 length-rests [] [] h = refl
 length-rests [] (r ∷ rests) h = absurd h

@@ -1,4 +1,4 @@
--- A spread of which a leg has nothing to use is not formed, and changes nothing.
+-- A spread is not formed and changes nothing if one of its legs has nothing to use.
 use Rattle.std.proofs.Common.{◌≡◌, ℕ, zero, suc, ◌+◌, ◌*◌, ◌/◌, ◌^◌, ◌<◌, ◌≤◌, Bool, true, false, cond}
 use Rattle.std.proofs.Common.{List, [], ◌∷◌, ◌++◌, refl, sym, ap, ◌∙◌, subst, arith, sum_by, fold}
 use Rattle.std.specs.Prelude.{ℤ, pos, negsuc, All}
@@ -36,7 +36,7 @@ push_all : {X : Type 0} (P : X → Type 0) (xs : List X) (x : X) → All P xs �
 push_all P [] x all p = All-cons P x [] p (All-nil P)
 push_all P (y ∷ ys) x all p = All-cons P y (ys ++ x ∷ []) (All-head P y ys all) (push_all P ys x (All-tail P y ys all) p)
 
--- months have their sides also with one month more
+-- appending a month keeps the sides valid if it is marked and earlier marks are kept
 pub have_more : (sides next : OpenSides) (months : List MonthUnits) (m : MonthUnits) → HaveSides sides months
     → ((other : ℕ) (z : ℤ) → IsOpenAt sides other z → IsOpenAt next other z) → IsOpenAt next (month_count m.month) m.units
     → HaveSides next (months ++ m ∷ [])
@@ -53,7 +53,7 @@ part_less Short (pos n) (negsuc k) h = absurd h
 part_less Short (negsuc n) (pos k) h = omega arith
 part_less Short (negsuc n) (negsuc k) h = omega (arith, h)
 
--- what spreads left of months is on the sides of the months
+-- sides that are valid for the months are valid for the remaining deltas
 pub have_rests : (sides : OpenSides) (months rests : List MonthUnits) → Shrinks months rests → HaveSides sides months
     → HaveSides sides rests
 have_rests sides [] [] h have = have
@@ -67,7 +67,7 @@ have_rests sides (m ∷ months) (r ∷ rests) h have =
     All-cons P r rests (subst (λ (k : ℕ). IsOpenAt sides (month_count k) r.units) (sym h.0) there)
     (have_rests sides months rests (h.1).1 (All-tail P m months have))
 
--- rests and charge after spreads stay within their bounds, and on the sides of the rests before them
+-- after spreads, remaining deltas and charge are within their bounds, and the sides of before are still valid
 pub tiers_after : (t : TierRests) (sides : OpenSides) (before after : TierPlaces) (rests : List MonthUnits) (charge : ℕ)
     → AreTiers t sides before → MonthsRise rests → Shrinks t.rests rests
     → charge + MAX_RATE * total_size rests ≤ t.charge + MAX_RATE * total_size t.rests → ArePlaces after rests
@@ -78,12 +78,12 @@ tiers_after t sides before after rests charge are rise shrinks small at = record
   at = at;
 }
 
--- rests and charge before any spread are within their bounds
+-- before any spread, remaining deltas and charge are within their bounds
 pub tiers_before : (months : List MonthUnits) (sides : OpenSides) (places : TierPlaces) → AreMonths months → HaveSides sides months
     → ArePlaces places months → AreTiers (unspread months) sides places
 tiers_before months sides places are have at = record { rests = unspread_are months are; have = have; at = at }
 
--- so they are without months, whatever the sides
+-- the same without months, for any sides
 pub tiers_of_nothing : (sides : OpenSides) (places : TierPlaces) → ArePlaces places [] → AreTiers (unspread []) sides places
 tiers_of_nothing sides places at =
     tiers_before [] sides places no_months (All-nil (λ (m : MonthUnits). IsOpenAt sides (month_count m.month) m.units)) at
@@ -107,7 +107,7 @@ tier_by : (on : MarketSide) (sides : OpenSides) (leg : MonthLeg) (m : MonthUnits
 tier_by on sides leg m zero rest first others above = others (omega (arith, above))
 tier_by on sides leg m (suc n) rest first others above = first (omega arith)
 
--- a side with something on it has a month that is marked
+-- a side that is not empty has a marked month
 tier_marked : (on : MarketSide) (sides : OpenSides) (leg : MonthLeg) (rests : List MonthUnits) → HaveSides sides rests
     → 0 < tier_side rests on leg
     → IsTierMarked (numbers_on on sides) leg
@@ -132,7 +132,7 @@ module _ (d : Direction) (sides : OpenSides) (rests : List MonthUnits) (have : H
   unfolding IsOpen
   leg_open leg above = tier_marked (market_side d leg.side) sides leg rests have (side_above _ leg.ratio above)
 
-  -- where spreads are formed, each leg has a month that is marked
+  -- if spreads are formed, each leg has a marked month
   legs_open : (legs : List MonthLeg) → 0 < spreads_formed (tier_rooms d legs rests) → All IsOpen legs
   legs_open [] above = absurd (omega (arith, above))
   legs_open (leg ∷ []) above = All-cons IsOpen leg [] (leg_open leg above) (All-nil IsOpen)
@@ -146,7 +146,7 @@ module _ (d : Direction) (sides : OpenSides) (rests : List MonthUnits) (have : H
   by_count legs zero e closed = e
   by_count legs (suc n) e closed = let never : false ≡ true = closed (legs_open legs (omega (arith, e))) in cc
 
-  -- where some leg has no month that is marked, no spread is formed
+  -- if a leg has no marked month, no spread is formed
   pub formed_closed : (legs : List MonthLeg)
       → (All (λ leg. IsTierMarked (numbers_on (market_side d leg.side) sides) leg) legs → false ≡ true)
       → spreads_formed (tier_rooms d legs rests) ≡ 0
@@ -159,7 +159,7 @@ formed_of_nothing d [] = refl
 formed_of_nothing d (leg ∷ []) = zero-div leg.ratio
 formed_of_nothing d (leg ∷ x ∷ xs) = let none = zero-div leg.ratio in omega (arith, none)
 
--- a spread that forms nothing in a direction changes nothing
+-- a spread that forms nothing in a direction changes nothing in it
 pub one_way_none : (t : TierRests) (s : Intra) (d : Direction) → spreads_formed (tier_rooms d s.legs t.rests) ≡ 0
     → spread_one_way s d t ≡ t
 one_way_none t s d e =
@@ -178,7 +178,7 @@ either : (P : Direction → Type 0) → P ALong → P AShort → (d : Direction)
 either P a b ALong = a
 either P a b AShort = b
 
--- a spread of which some leg has nothing to use, in either direction, changes nothing
+-- a spread changes nothing if, in each direction, a leg has nothing to use
 pub both_ways_closed : (t : TierRests) (s : Intra) (sides : OpenSides) → HaveSides sides t.rests
     → (All (λ leg. IsTierMarked (numbers_on (market_side ALong leg.side) sides) leg) s.legs → false ≡ true)
     → (All (λ leg. IsTierMarked (numbers_on (market_side AShort leg.side) sides) leg) s.legs → false ≡ true)
@@ -187,7 +187,7 @@ both_ways_closed t s sides have first second =
     both_ways_none t s (λ d. formed_closed d sides t.rests have s.legs
     (either (λ e. All (λ leg. IsTierMarked (numbers_on (market_side e leg.side) sides) leg) s.legs → false ≡ true) first second d))
 
--- where no month is held, spreads change nothing
+-- if no month is held, spreads change nothing
 pub after_spreads_of_nothing : (spreads : List Intra) → after_spreads spreads [] ≡ unspread []
 unfolding after_spreads
 after_spreads_of_nothing [] = refl
@@ -200,7 +200,7 @@ spots_of_nothing [] = refl
 spots_of_nothing (s ∷ spots) =
     let all = sum_by-cons (spot_charge [] []) s spots in let rest = spots_of_nothing spots in omega (arith, all, rest)
 
--- where no month is held, nothing is delivered
+-- if no month is held, the delivery charge is 0
 pub delivery_of_nothing : (spots : List Spot) → delivery_charge [] [] spots ≡ 0
 unfolding delivery_charge
 delivery_of_nothing spots = ap (λ n. div_ceil n (10 ^ 8)) (spots_of_nothing spots)

@@ -1,4 +1,4 @@
--- The deltas of months, one held contract after the other.
+-- The month deltas, computed one held contract at a time.
 use Rattle.std.proofs.Common.{◌≡◌, ℕ, ◌+◌, ◌<◌, ◌≤◌, Bool, true, false, cond, List, [], ◌∷◌, refl, sym, ap}
 use Rattle.std.proofs.Common.{◌∙◌, subst, arith, filter, map, inl, inr, nat_abs}
 use Rattle.std.specs.Prelude.{ℤ, pos, ◌+ℤ◌, ◌==◌, nat_lt, ◌⊎◌}
@@ -15,7 +15,7 @@ use Rattle.spread_stage.specs.declared.months.MonthUnits.{MonthUnits}
 use Rattle.span_tables.proofs.SumLaws.{int_sum_by-if}
 use Rattle.spread_stage.proofs.MonthLaws.{Rise, Has, months_rise_up, months_have, later_than, all_above}
 
--- months with what a function gives them
+-- months, each with the units that a function returns for it
 abbrev with_deltas : (ℕ → ℤ) → List ℕ → List MonthUnits
 with_deltas f ps = map (λ p. record { month = p; units = f p }) ps
 
@@ -24,7 +24,7 @@ same_cons : (p : ℕ) (a b : ℤ) (xs ys : List MonthUnits) → a ≡ b → xs �
 same_cons p a b xs ys e h =
     ap (λ (u : ℤ). record { month = p; units = u } ∷ xs) e ∙ ap (λ (ms : List MonthUnits). record { month = p; units = b } ∷ ms) h
 
--- where two functions agree, the months are the same
+-- two functions that agree on later months give the same list
 same_above : (f g : ℕ → ℤ) (p : ℕ) (ps : List ℕ) → ((q : ℕ) → p < q → f q ≡ g q) → AllByRecursion (λ q. p < q) ps
     → with_deltas f ps ≡ with_deltas g ps
 same_above f g p [] same h = refl
@@ -73,7 +73,7 @@ module _ (f g : ℕ → ℤ) (p : ℕ) (u : ℤ) (at : g p ≡ f p +ℤ u) (othe
   step [] rise (inr z) = let here : u ≡ g p = omega (arith, ints, z, at) in same_cons p u (g p) [] [] here refl
   step (q ∷ qs) rise h = step_if (nat_lt p q) (p == q) q qs refl refl rise h (step qs rise.1)
 
--- a month is one of these, or no contract has it
+-- a month is in the list, or no contract has it and its delta is 0
 absent : (p : ℕ) (ps : List ℕ) (hs : List HeldContract) → AllByRecursion (λ h. Has (h.contract).month ps) hs
     → Has p ps ⊎ (month_delta hs p ≡ pos 0)
 absent p ps [] a = inr refl
@@ -101,7 +101,7 @@ delta_other h hs q e =
     sym (ap (λ b. int_sum_by units_of
     (cond b (h ∷ filter (λ x. (x.contract).month == q) hs) (filter (λ x. (x.contract).month == q) hs))) e)
 
--- with one more contract in front, its units are added to its month
+-- one more contract at the front adds its units to its month
 pub month_deltas-cons : (h : HeldContract) (hs : List HeldContract)
     → with_units (h.contract).month (units_of h) (month_deltas hs) ≡ month_deltas (h ∷ hs)
 unfolding month_deltas
@@ -125,7 +125,7 @@ size_if false false p u m ms more h =
     let a = sum_by-cons (λ (x : MonthUnits). nat_abs x.units) m ms in
     let b = sum_by-cons (λ (x : MonthUnits). nat_abs x.units) m more in omega (arith, a, b, h)
 
--- the sizes with units added
+-- adding units increases the total size by at most their size
 pub size-with_units : (p : ℕ) (u : ℤ) (ms : List MonthUnits) → total_size (with_units p u ms) ≤ total_size ms + nat_abs u
 size-with_units p u [] = omega arith
 size-with_units p u (m ∷ ms) = size_if (nat_lt p m.month) (p == m.month) p u m ms (with_units p u ms) (size-with_units p u ms)

@@ -1,4 +1,4 @@
--- How sides and rests fall.
+-- How sides and remaining deltas fall when they are used.
 use Rattle.std.proofs.Common.{◌≡◌, ℕ, suc, ◌+◌, ◌-◌, ◌≤◌, min, Bool, true, false, cond, List, [], ◌∷◌, refl, ap}
 use Rattle.std.proofs.Common.{arith, map, sum_by, fold}
 use Rattle.std.specs.Prelude.{ℤ, pos, negsuc, ◌+ℤ◌, ◌-ℤ◌}
@@ -26,7 +26,7 @@ negative_left (negsuc k) n u e = omega (arith, ints, e)
 positive_left : (z : ℤ) (n : ℕ) → z ≡ pos n → positive_part z ≡ n
 positive_left z n e = ap positive_part e
 
--- what is left on a side and what was used make the part
+-- on a side, what is left plus what was used is the part before
 part-less_used : (on : MarketSide) (z : ℤ) (u : ℕ) → u ≤ part_on on z → part_on on (less_used on z u) + u ≡ part_on on z
 part-less_used Long (pos n) u h =
     let e : pos n -ℤ pos u ≡ pos (n - u) = omega (arith, ints, h) in
@@ -64,7 +64,7 @@ module _ (on : MarketSide) (leg : MonthLeg) (needed : ℕ) (rests : List MonthUn
       let h = side_of_all ms in
       omega (arith, a, b, d, e, h)
 
--- a leg's side falls by what the leg needs
+-- a leg's side falls by exactly what the leg needs
 pub side_falls : (on : MarketSide) (leg : MonthLeg) (rests : List MonthUnits) (needed : ℕ) → MonthsRise rests
     → needed ≤ tier_side rests on leg
     → tier_side (rests_after_leg on needed rests leg) on leg + needed ≡ tier_side rests on leg
@@ -86,7 +86,7 @@ all_shrink : (deltas : List MonthUnits) (spreads : List Intra) (t : TierRests) �
 all_shrink deltas [] t h = h
 all_shrink deltas (s ∷ spreads) t h = all_shrink deltas spreads (spread_both_ways t s) (both_shrink deltas t s h)
 
--- after all spreads each rest is a part of its month's delta
+-- after all spreads, each remaining delta is a part of its month delta
 pub spreads_shrink : (spreads : List Intra) (months : List MonthUnits) → Shrinks months (after_spreads spreads months).rests
 unfolding after_spreads
 spreads_shrink spreads months = all_shrink months spreads (unspread months) (shrinks_none months)

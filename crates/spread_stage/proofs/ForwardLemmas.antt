@@ -1,4 +1,5 @@
--- Months may be gathered from the first held contract on: in whatever order units are added, the months are the same.
+-- The order in which units are added does not change the months, so months may be gathered from the first held contract
+-- on.
 use Rattle.std.proofs.Common.{◌≡◌, ℕ, ◌<◌, Bool, true, false, cond, List, [], ◌∷◌, ◌++◌}
 use Rattle.std.proofs.Common.{refl, sym, ap, ◌∙◌, subst, arith, inl, inr}
 use Rattle.std.specs.Prelude.{ℤ, ◌+ℤ◌, ◌==◌, nat_lt}
@@ -12,7 +13,7 @@ use Rattle.spread_stage.specs.declared.months.MonthUnits.{MonthUnits}
 use Rattle.spread_stage.proofs.DeltaLemmas.{month_deltas-cons}
 
 module _ (p : ℕ) (u : ℤ) where
-  -- units of a month behind the first, of the first, and of a month before it
+  -- units are added after the first month, to the first month, or before it
   earlier_if : (b c : Bool) (m : MonthUnits) (ms more : List MonthUnits) → nat_lt p m.month ≡ b → (p == m.month) ≡ c → m.month < p
       → cond b (record { month = p; units = u } ∷ m ∷ ms)
       (cond c (record { month = m.month; units = m.units +ℤ u } ∷ ms) (m ∷ more)) ≡ m ∷ more
@@ -34,27 +35,27 @@ module _ (p : ℕ) (u : ℤ) where
   later_if true c m ms more e lt = refl
   later_if false c m ms more e lt = absurd (grind (arith, nat_tests, e, lt))
 
--- a month with units
+-- a month with its units
 abbrev pub of_month : ℕ → ℤ → MonthUnits
 of_month p u = record { month = p; units = u }
 
 module _ (p : ℕ) (u : ℤ) (m : MonthUnits) (ms : List MonthUnits) where
-  -- units of a month that is earlier than the first
+  -- the units belong to a month earlier than the first
   pub before : p < m.month → with_units p u (m ∷ ms) ≡ of_month p u ∷ m ∷ ms
   before lt = later_if p u (nat_lt p m.month) (p == m.month) m ms (with_units p u ms) refl lt
 
-  -- units of the first month
+  -- the units belong to the first month
   pub here : p ≡ m.month → with_units p u (m ∷ ms) ≡ of_month m.month (m.units +ℤ u) ∷ ms
   here e = same_if p u (nat_lt p m.month) (p == m.month) m ms (with_units p u ms) refl refl (sym e)
 
-  -- units of a later month
+  -- the units belong to a later month
   behind : m.month < p → with_units p u (m ∷ ms) ≡ m ∷ with_units p u ms
   behind lt = earlier_if p u (nat_lt p m.month) (p == m.month) m ms (with_units p u ms) refl refl lt
 
 added : (a b c : ℤ) → (a +ℤ b) +ℤ c ≡ (a +ℤ c) +ℤ b
 added a b c = omega (arith, ints)
 
--- twice to the same month
+-- both additions are to the same month
 same_month : (p : ℕ) (u v : ℤ) (ms : List MonthUnits) → with_units p u (with_units p v ms) ≡ with_units p v (with_units p u ms)
 same_month p u v [] =
     here p u (of_month p v) [] refl ∙ ap (λ (z : ℤ). of_month p z ∷ []) (omega (arith, ints))
@@ -75,7 +76,7 @@ same_month p u v (m ∷ ms) =
           ∙ sym (ap (with_units p v) (behind p u m ms lt) ∙ behind p v m (with_units p u ms) lt)
     ]
 
--- to a month and to a later one
+-- the additions are to a month and to a later one
 later_month : (p q : ℕ) (u v : ℤ) (ms : List MonthUnits) → p < q
     → with_units p u (with_units q v ms) ≡ with_units q v (with_units p u ms)
 later_month p q u v [] lt = before p u (of_month q v) [] lt ∙ sym (behind q v (of_month p u) [] lt)
@@ -107,7 +108,7 @@ later_month p q u v (m ∷ ms) lt =
           ]
     ]
 
--- the order does not matter
+-- the order of two additions does not matter
 pub either_first : (p q : ℕ) (u v : ℤ) (ms : List MonthUnits)
     → with_units p u (with_units q v ms) ≡ with_units q v (with_units p u ms)
 either_first p q u v ms =
@@ -117,7 +118,7 @@ either_first p q u v ms =
       | inr (inr lt) ↦ sym (later_month q p v u ms lt)
     ]
 
--- with one more contract behind, its units are added to its month
+-- one more contract at the end adds its units to its month
 pub month_deltas-push : (hs : List HeldContract) (h : HeldContract)
     → with_units (h.contract).month (units_of h) (month_deltas hs) ≡ month_deltas (hs ++ h ∷ [])
 month_deltas-push [] h = month_deltas-cons h []

@@ -1,4 +1,4 @@
--- Units that are added at the end, and what they are when they are gathered.
+-- Adding units at the end of a list, and gathering a list's units by month.
 use Rattle.std.proofs.Common.{◌≡◌, ℕ, zero, suc, ◌+◌, ◌<◌, ◌≤◌, Bool, true, false, cond, List, [], ◌∷◌}
 use Rattle.std.proofs.Common.{◌++◌, refl, sym, ap, ◌∙◌, arith, length, set, get_or, nat_abs}
 use Rattle.std.specs.Prelude.{ℤ, ◌+ℤ◌, ◌==◌, nat_le}
@@ -14,7 +14,7 @@ use Rattle.spread_stage.proofs.ForwardLemmas.{before, either_first, here, of_mon
 
 -- ---- the end of a list
 
--- the last month has them
+-- the units belong to the last month
 pub set_last : (p : ℕ) (u : ℤ) (ms : List MonthUnits) (i : ℕ) (d v : MonthUnits) → i + 1 ≡ length ms
     → p ≡ (get_or ms i d).month
     → v ≡ of_month (get_or ms i d).month ((get_or ms i d).units +ℤ u) → set ms i v ≡ with_units_last p u ms
@@ -28,7 +28,7 @@ set_last p u (m ∷ n ∷ ms) zero d v at same now = absurd (omega (arith, at))
 set_last p u (m ∷ n ∷ ms) (suc i) d v at same now =
     ap (λ (xs : List MonthUnits). m ∷ xs) (set_last p u (n ∷ ms) i d v (omega (arith, at)) same now)
 
--- the last month is another
+-- the units belong to another month than the last
 pub push_last : (p : ℕ) (u : ℤ) (ms : List MonthUnits)
     → ((i : ℕ) (d : MonthUnits) → i + 1 ≡ length ms → p ≡ (get_or ms i d).month → ⊥)
     → ms ++ of_month p u ∷ [] ≡ with_units_last p u ms
@@ -43,9 +43,9 @@ push_last p u (m ∷ []) other =
 push_last p u (m ∷ n ∷ ms) other =
     ap (λ (xs : List MonthUnits). m ∷ xs) (push_last p u (n ∷ ms) (λ i d at. other (suc i) d (omega (arith, at))))
 
--- ---- what is gathered
+-- ---- gathered months
 
--- months with units added at the end
+-- adding units at the end adds them to the gathered months
 pub gathered-last : (p : ℕ) (u : ℤ) (ms : List MonthUnits) → gathered (with_units_last p u ms) ≡ with_units p u (gathered ms)
 gathered-last p u [] = refl
 gathered-last p u (m ∷ []) = last_if (p == m.month) refl where
@@ -57,20 +57,20 @@ gathered-last p u (m ∷ []) = last_if (p == m.month) refl where
 gathered-last p u (m ∷ n ∷ ms) =
     ap (with_units m.month m.units) (gathered-last p u (n ∷ ms)) ∙ either_first m.month p m.units u (gathered (n ∷ ms))
 
--- one more behind
+-- appending a month adds its units to the gathered months
 pub gathered-push : (ms : List MonthUnits) (m : MonthUnits) → gathered (ms ++ m ∷ []) ≡ with_units m.month m.units (gathered ms)
 gathered-push [] m = refl
 gathered-push (x ∷ ms) m =
     ap (with_units x.month x.units) (gathered-push ms m) ∙ either_first x.month m.month x.units m.units (gathered ms)
 
--- months that rise are so already
+-- gathering does not change months that are strictly ascending
 pub gathered-rise : (ms : List MonthUnits) → MonthsRise ms → gathered ms ≡ ms
 gathered-rise [] up = refl
 gathered-rise (m ∷ []) up = refl
 gathered-rise (m ∷ n ∷ ms) up =
     ap (with_units m.month m.units) (gathered-rise (n ∷ ms) up.1) ∙ before m.month m.units n ms (up.0).0
 
--- by whatever key the list is sorted
+-- sorting by any key does not change the gathered months
 module _ (key : MonthUnits → ℕ) where
   placed_if : (b : Bool) (x y : MonthUnits) (ys more : List MonthUnits) → gathered more ≡ with_units x.month x.units (gathered ys)
       → gathered (cond b (x ∷ y ∷ ys) (y ∷ more)) ≡ with_units x.month x.units (gathered (y ∷ ys))
@@ -88,7 +88,7 @@ module _ (key : MonthUnits → ℕ) where
 
 -- ---- sizes
 
--- the sizes with units added at the end
+-- adding units at the end increases the total size by at most their size
 pub size-last : (p : ℕ) (u : ℤ) (ms : List MonthUnits) → total_size (with_units_last p u ms) ≤ total_size ms + nat_abs u
 size-last p u [] = omega arith
 size-last p u (m ∷ []) = size_if (p == m.month) where
@@ -103,17 +103,17 @@ size-last p u (m ∷ n ∷ ms) =
 
 -- ---- order
 
--- no month is later
+-- no month of the list is later than p
 abbrev pub NoneLater : ℕ → List MonthUnits → Type 0
 NoneLater p ms = AllByRecursion (λ m. m.month ≤ p) ms
 
--- nor than a later month
+-- if no month is later than p, none is later than a later month q
 pub none_later_than : (p q : ℕ) (ms : List MonthUnits) → p ≤ q → NoneLater p ms → NoneLater q ms
 none_later_than p q [] le h = tt
 none_later_than p q (m ∷ ms) le h = let one : m.month ≤ p = h.0 in (omega (arith, one, le), none_later_than p q ms le h.1)
 
 module _ (p : ℕ) (u : ℤ) where
-  -- months behind one stay behind it
+  -- months that are all later than q still are after the addition
   behind_still : (q : ℕ) (ms : List MonthUnits) → q < p → AllByRecursion (λ m. q < m.month) ms
       → AllByRecursion (λ m. q < m.month) (with_units_last p u ms)
   behind_still q [] lt h = (lt, tt)
@@ -124,7 +124,7 @@ module _ (p : ℕ) (u : ℤ) where
     still false = (h.0, (lt, tt))
   behind_still q (m ∷ n ∷ ms) lt h = (h.0, behind_still q (n ∷ ms) lt h.1)
 
-  -- where no month is later, none is afterwards
+  -- if no month is later than p, none is after the addition
   pub none_later_after : (ms : List MonthUnits) → NoneLater p ms → NoneLater p (with_units_last p u ms)
   none_later_after [] h = (omega arith, tt)
   none_later_after (m ∷ []) h = still (p == m.month) where
@@ -133,7 +133,7 @@ module _ (p : ℕ) (u : ℤ) where
     still false = (h.0, (omega arith, tt))
   none_later_after (m ∷ n ∷ ms) h = (h.0, none_later_after (n ∷ ms) h.1)
 
-  -- months that rise still rise after units are added at the end
+  -- strictly ascending months still are after units are added at the end
   pub rise_after : (ms : List MonthUnits) → MonthsRise ms → NoneLater p ms → MonthsRise (with_units_last p u ms)
   rise_after [] up h = (tt, tt)
   rise_after (m ∷ []) up h = still (p == m.month) refl where

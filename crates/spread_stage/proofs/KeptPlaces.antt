@@ -1,4 +1,4 @@
--- Every leg with the same first and last month has its months at the same places, and they stay there when units change.
+-- Legs with the same first and last month have their months at the same indices, and changing units does not move them.
 use Rattle.std.proofs.Common.{◌≡◌, ◌≢◌, ◌<◌, ◌==◌, Bool, ℕ, zero, suc, true, false, List, [], ◌∷◌, replicate}
 use Rattle.std.proofs.Common.{refl, sym, subst, inl, inr, ◌∙◌, arith, get_or, set, length}
 use Rattle.std.proofs.lemmas.Bool.{cases_Bool, eqb-false, eqb-true, true≢false}
@@ -11,7 +11,7 @@ use Rattle.spread_stage.specs.declared.months.MonthUnits.{MonthUnits}
 use Rattle.spread_stage.specs.declared.tier_places.TierPlace.{TierPlace}
 use Rattle.spread_stage.specs.declared.tier_places.TierPlaces.{TierPlaces}
 
--- one tier has its months where another has them in another list, if a month is in both tiers or in neither at each place
+-- two tiers occupy the same indices of two lists if at each index a month is in both tiers or in neither
 stands_too : (leg other : MonthLeg) (rests later : List MonthUnits) (start stop : ℕ) → length later ≡ length rests
     → ((k : ℕ) (d : MonthUnits) → is_in_tier other (get_or later k d) ≡ is_in_tier leg (get_or rests k d))
     → IsTierAt leg rests start stop → IsTierAt other later start stop
@@ -23,7 +23,7 @@ stands_too leg other rests later start stop long same at = record {
   behind = λ k d low below. same k d ∙ at.behind k d low (omega (arith, long, below));
 }
 
--- a leg's places are the places of every leg with the same first and last month
+-- the indices found for a leg are valid for every leg with the same first and last month
 pub same_tier : (leg : MonthLeg) (rests : List MonthUnits) (place : TierPlace) → place.first ≡ leg.first → place.last ≡ leg.last
     → IsTierAt leg rests place.start place.end → IsPlaceOf rests place
 same_tier leg rests place first last at other f l =
@@ -39,7 +39,7 @@ none_of (suc n) (suc entry) = none_of n entry
 pub never_known : (entry : ℕ) → get_or (replicate 16 false) entry false ≡ true → ⊥
 never_known entry known = true≢false (sym known ∙ none_of 16 entry)
 
--- one more tier is remembered
+-- remembering one more tier keeps all entries valid
 pub remembered : (known : List Bool) (places : List TierPlace) (i : ℕ) (place : TierPlace) (rests : List MonthUnits) → i < length places
     → ((entry : ℕ) → get_or known entry false ≡ true → (d : TierPlace) → IsPlaceOf rests (get_or places entry d))
     → IsPlaceOf rests place → (entry : ℕ) → get_or (set known i true) entry false ≡ true → (d : TierPlace)
@@ -69,7 +69,7 @@ same_month (m ∷ rests) [] h k d = absurd h
 same_month (m ∷ rests) (r ∷ later) h zero d = h.0
 same_month (m ∷ rests) (r ∷ later) h (suc k) d = same_month rests later (h.1).1 k d
 
--- what spreads left stands at the same places
+-- the indices of tiers stay valid after spreads
 pub places_stay : (places : TierPlaces) (rests later : List MonthUnits) → Shrinks rests later → ArePlaces places rests
     → ArePlaces places later
 places_stay places rests later h are entry known d leg f l =

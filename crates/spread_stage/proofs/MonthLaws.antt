@@ -1,4 +1,4 @@
--- The held months rise, and their deltas add up to the net delta.
+-- The held months are strictly ascending, and their deltas add up to the net delta.
 use Rattle.std.proofs.Common.{◌≡◌, ℕ, ◌<◌, Bool, true, false, cond, List, [], ◌∷◌, refl, sym, ap, ◌∙◌, arith, subst}
 use Rattle.std.proofs.Common.{filter, map, inl, inr}
 use Rattle.std.specs.Prelude.{ℤ, pos, ◌+ℤ◌, ◌==◌, nat_lt, ◌⊎◌}
@@ -12,7 +12,7 @@ use Rattle.span_tables.specs.Net.{HeldContract}
 use Rattle.spread_stage.specs.declared.months.MonthUnits.{MonthUnits}
 use Rattle.span_tables.proofs.SumLaws.{int_sum_by-cons, int_sum_by-if}
 
--- the numbers rise
+-- the numbers are strictly ascending
 abbrev pub Rise : List ℕ → Type 0
 Rise [] = Unit {0}
 Rise (p ∷ ps) = AllByRecursion (λ q. p < q) ps × Rise ps
@@ -63,14 +63,14 @@ unfolding with_units
 rise_map held [] h = tt
 rise_map held (p ∷ ps) h = (above_map held p ps h.0, rise_map held ps h.1)
 
--- the held months rise
+-- the held months are strictly ascending
 pub month_deltas_rise : (held : List HeldContract) → MonthsRise (month_deltas held)
 unfolding month_deltas with_units
 month_deltas_rise held = rise_map held (months_of held) (months_rise_up held)
 
 -- ---- the net delta
 
--- p is one of these
+-- p is an element of the list
 abbrev pub Has : ℕ → List ℕ → Type 0
 Has p [] = ⊥
 Has p (q ∷ qs) = (p ≡ q) ⊎ Has p qs
@@ -135,7 +135,7 @@ there_once p u (q ∷ qs) h (inr k) =
     let split = int_sum_by-cons (λ r. cond (p == r) u (pos 0)) q qs in
     omega (arith, ints, here, rest, split)
 
--- a month's delta with one more contract, summed over months
+-- the sum of month deltas with one more contract
 sum_with : (h : HeldContract) (hs : List HeldContract) (ps : List ℕ)
     → int_sum_by (month_delta (h ∷ hs)) ps
     ≡ int_sum_by (λ p. cond ((h.contract).month == p) (units_of h) (pos 0)) ps +ℤ int_sum_by (month_delta hs) ps
@@ -172,7 +172,7 @@ units_sum held (p ∷ ps) =
     let c = units_sum held ps in
     omega (arith, ints, a, b, c)
 
--- the net delta is the sum over all held contracts
+-- the net delta is the sum of the deltas of all held contracts
 pub net_delta_is : (held : List HeldContract) → net_delta (month_deltas held) ≡ int_sum_by units_of held
 unfolding month_deltas with_units
 net_delta_is held = units_sum held (months_of held) ∙ sum_over (months_of held) (months_rise_up held) held (months_have held)

@@ -1,4 +1,4 @@
--- The months of a leg's tier stand together, and what a leg uses of them.
+-- The months of a leg's tier are adjacent, and a leg uses them in order.
 use Rattle.std.proofs.Common.{◌≡◌, ℕ, zero, suc, ◌+◌, ◌-◌, ◌<◌, ◌≤◌, ◌==◌, Bool, true, false, List, [], ◌∷◌}
 use Rattle.std.proofs.Common.{◌++◌, refl, sym, ap, ◌∙◌, subst, arith, take, drop, length, get_or, filter, sum_by, nat_abs}
 use Rattle.std.specs.Prelude.{slice_range}
@@ -19,7 +19,7 @@ use Rattle.spread_stage.specs.near.Uses.{used_in_turn}
 use Rattle.spread_stage.specs.declared.months.MonthUnits.{MonthUnits}
 use Rattle.spread_stage.proofs.UseLemmas.{IsInTier, IsOutOfTier, filter_tier, used_of_tier}
 
--- a later place has no earlier month
+-- months do not decrease with their index
 pub rise_by_place : (ms : List MonthUnits) → MonthsRise ms → IsNonDecreasingBy (λ m. m.month) ms
 rise_by_place [] rise i j d le lt = absurd (omega (arith, lt))
 rise_by_place (m ∷ ms) rise zero zero d le lt = omega arith
@@ -29,7 +29,7 @@ rise_by_place (m ∷ ms) rise zero (suc j) d le lt =
 rise_by_place (m ∷ ms) rise (suc i) zero d le lt = absurd (omega (arith, le))
 rise_by_place (m ∷ ms) rise (suc i) (suc j) d le lt = rise_by_place ms rise.1 i j d (omega (arith, le)) (omega (arith, lt))
 
--- the months before one that is earlier than a month are earlier too
+-- if the month at an index is earlier than a given month, so are all months before that index
 pub earlier_before : (ms : List MonthUnits) → MonthsRise ms → (place month : ℕ) (m : MonthUnits) → place < length ms
     → (get_or ms place m).month < month
     → AllWithin (λ n. n.month < month) ms 0 place
@@ -38,7 +38,7 @@ earlier_before ms rise place month m within early k d low below =
     let same = ap (λ (n : MonthUnits). n.month) (get_or_default ms place m d within) in
     omega (arith, le, same, early)
 
--- where the month at a place is not earlier, none of the months from that place on is
+-- if the month at an index is not earlier than a given month, no month from that index on is
 pub not_earlier_from : (ms : List MonthUnits) → MonthsRise ms → (place month : ℕ) (m : MonthUnits) → place < length ms
     → month ≤ (get_or ms place m).month
     → AllWithin (λ n. month ≤ n.month) ms place (length ms)
@@ -47,7 +47,7 @@ not_earlier_from ms rise place month m within late k d low below =
     let same = ap (λ (n : MonthUnits). n.month) (get_or_default ms place m d within) in
     omega (arith, le, same, late)
 
--- one more month is earlier
+-- the earlier months extend by the month at the next index
 earlier_if : (ms : List MonthUnits) (month place k : ℕ) (d : MonthUnits) (b : Bool) → (k == place) ≡ b
     → (k < place → (get_or ms k d).month < month) → k < place + 1 → (get_or ms place d).month < month
     → (get_or ms k d).month < month
@@ -73,7 +73,7 @@ before_tier leg m low = grind (arith, nat_tests, low)
 pub behind_tier : (leg : MonthLeg) (m : MonthUnits) → leg.last < m.month → is_in_tier leg m ≡ false
 behind_tier leg m high = grind (arith, nat_tests, high)
 
--- one more month is one of the tier
+-- the months of the tier extend by the month at the next index
 more_if : (leg : MonthLeg) (rests : List MonthUnits) (start stop : ℕ) (m : MonthUnits) (k : ℕ) (d : MonthUnits) (b : Bool)
     → (k == stop) ≡ b → stop < length rests → k < stop + 1 → (k < stop → is_in_tier leg (get_or rests k d) ≡ true)
     → is_in_tier leg (get_or rests stop m) ≡ true → is_in_tier leg (get_or rests k d) ≡ true
@@ -91,7 +91,7 @@ one_more leg rests start stop m order more parted inside last k d low below =
     (within_tier leg (get_or rests stop m) (parted stop m order more) last)
 
 module _ (leg : MonthLeg) (rests : List MonthUnits) (start stop : ℕ) (at : IsTierAt leg rests start stop) where
-  -- the months behind the tier
+  -- the months after the tier
   abbrev pub back : List MonthUnits
   back = drop (stop - start) (drop start rests)
 
@@ -131,13 +131,13 @@ module _ (leg : MonthLeg) (rests : List MonthUnits) (start stop : ℕ) (at : IsT
       subst (λ (m : MonthUnits). is_in_tier leg m ≡ false) (sym where_it_is)
       (at.behind (stop + k) d (omega arith) (omega (arith, short, lt))))
 
-  -- the months of the tier by its definition
+  -- the slice contains exactly the months of the tier
   pub months_at : filter (is_in_tier leg) rests ≡ slice_range rests start stop
   months_at =
       ap (filter (is_in_tier leg)) split
       ∙ filter_tier Long leg (take start rests) (slice_range rests start stop) back front_out tier_in back_out
 
-  -- the side of the tier is theirs
+  -- the side of the tier is the sum of the parts of the slice
   pub side_at : (on : MarketSide) → sum_by (λ m. part_on on m.units) (slice_range rests start stop) ≡ tier_side rests on leg
   side_at on = sym (ap (sum_by (λ (m : MonthUnits). part_on on m.units)) months_at)
 
@@ -149,7 +149,7 @@ module _ (leg : MonthLeg) (rests : List MonthUnits) (start stop : ℕ) (at : IsT
       let b = sum_by-append size (slice_range rests start stop) back in
       omega (arith, whole, a, b)
 
-  -- a leg uses of them in turn, and of no other
+  -- a leg uses the months of the slice in order, and no other month
   pub used_at : (on : MarketSide) (needed : ℕ) → MonthsRise rests
       → take start rests ++ (used_in_turn on needed (slice_range rests start stop) ++ back) ≡ rests_after_leg on needed rests leg
   used_at on needed rise =

@@ -1,4 +1,4 @@
--- Sizes of sides and rests.
+-- Sizes of sides and remaining deltas.
 use Rattle.std.proofs.Common.{◌≡◌, ℕ, ◌+◌, ◌-◌, ◌<◌, ◌≤◌, Bool, true, false, cond, List, [], ◌∷◌, refl, sym}
 use Rattle.std.proofs.Common.{ap, subst, arith, filter, map, nat_abs, suc, sum_by}
 use Rattle.std.specs.Prelude.{ℤ, pos, negsuc, ◌+ℤ◌, ◌-ℤ◌, ◌==◌, nat_lt, Option, Some, find, option_map, unwrap_or}
@@ -15,21 +15,21 @@ use Rattle.spread_stage.specs.Months.{MonthsRise, total_size, IsPartOf, Shrinks}
 use Rattle.span_tables.specs.declared.legs.MonthLeg.{MonthLeg}
 use Rattle.spread_stage.specs.declared.months.MonthUnits.{MonthUnits}
 
--- a part is at most the size
+-- the part on a side is at most the size
 pub part_on-le : (on : MarketSide) (z : ℤ) → part_on on z ≤ nat_abs z
 part_on-le Long (pos n) = omega arith
 part_on-le Long (negsuc n) = omega arith
 part_on-le Short (pos n) = omega arith
 part_on-le Short (negsuc n) = omega arith
 
--- what was used and what is left make the size
+-- what is left plus what was used is the size before
 pub size-less_used : (on : MarketSide) (z : ℤ) (u : ℕ) → u ≤ part_on on z → nat_abs (less_used on z u) + u ≡ nat_abs z
 size-less_used Long (pos n) u h = omega (arith, ints, h)
 size-less_used Long (negsuc n) u h = omega (arith, ints, h)
 size-less_used Short (pos n) u h = omega (arith, ints, h)
 size-less_used Short (negsuc n) u h = omega (arith, ints, h)
 
--- a side is at most the size of all rests
+-- a side is at most the total size of the remaining deltas
 size_if : (on : MarketSide) (b : Bool) (m : MonthUnits) (xs : List MonthUnits)
     → sum_by (λ (x : MonthUnits). part_on on x.units) (cond b (m ∷ xs) xs)
     ≤ part_on on m.units + sum_by (λ (x : MonthUnits). part_on on x.units) xs
@@ -74,7 +74,7 @@ left_of_short false n u e h =
     let small : n - u ≤ n = omega arith in
     subst (IsPartOf (negsuc n)) (sym z) small
 
--- what is left of a rest is a part of it
+-- what a use leaves of a remaining delta is a part of it
 pub IsPartOf-less_used : (on : MarketSide) (z : ℤ) (u : ℕ) → u ≤ part_on on z → IsPartOf z (less_used on z u)
 IsPartOf-less_used Long (pos n) u h =
     let z : pos n -ℤ pos u ≡ pos (n - u) = omega (arith, ints, h) in
@@ -87,14 +87,14 @@ IsPartOf-less_used Long (negsuc n) u h =
 IsPartOf-less_used Short (pos n) u h = omega (arith, h)
 IsPartOf-less_used Short (negsuc n) u h = left_of_short (nat_lt n u) n u refl h
 
--- a part is at most as large
+-- a part is at most as large as the whole
 pub IsPartOf-size : (a b : ℤ) → IsPartOf a b → nat_abs b ≤ nat_abs a
 IsPartOf-size (pos n) (pos k) h = omega (arith, h)
 IsPartOf-size (pos n) (negsuc k) h = absurd h
 IsPartOf-size (negsuc n) (pos k) h = omega (arith, h)
 IsPartOf-size (negsuc n) (negsuc k) h = omega (arith, h)
 
--- ---- rests of which something was used
+-- ---- remaining deltas after a use
 
 module _ (on : MarketSide) (used : MonthUnits → ℕ) (within : (m : MonthUnits) → used m ≤ part_on on m.units) where
   abbrev after : MonthUnits → MonthUnits
@@ -131,12 +131,12 @@ module _ (on : MarketSide) (used : MonthUnits → ℕ) (within : (m : MonthUnits
     ),
   )
 
--- before any use, each rest is its delta
+-- before any use, each remaining delta is the month delta
 pub shrinks_none : (deltas : List MonthUnits) → Shrinks deltas deltas
 shrinks_none [] = tt
 shrinks_none (d ∷ deltas) = (refl, (IsPartOf-all d.units, shrinks_none deltas))
 
--- ---- what a month has
+-- ---- the units of a month
 
 units_if : (b : Bool) (m : MonthUnits) (ms : List MonthUnits) (r : Option MonthUnits)
     → nat_abs (unwrap_or (option_map (λ (x : MonthUnits). x.units) r) (pos 0)) ≤ total_size ms
@@ -144,7 +144,7 @@ units_if : (b : Bool) (m : MonthUnits) (ms : List MonthUnits) (r : Option MonthU
 units_if true m ms r h = let a = sum_by-cons (λ (x : MonthUnits). nat_abs x.units) m ms in omega (arith, a)
 units_if false m ms r h = let a = sum_by-cons (λ (x : MonthUnits). nat_abs x.units) m ms in omega (arith, a, h)
 
--- what a month has is at most the size of all
+-- the size of a month's units is at most the total size
 pub units_at_le : (ms : List MonthUnits) (p : ℕ) → nat_abs (units_at ms p) ≤ total_size ms
 units_at_le [] p = omega arith
 units_at_le (m ∷ ms) p = units_if (m.month == p) m ms (find (λ x. x.month == p) ms) (units_at_le ms p)
@@ -157,7 +157,7 @@ left_if : (b : Bool) (m r : MonthUnits) (f g : Option MonthUnits) → IsPartOf m
 left_if true m r f g part h = IsPartOf-size m.units r.units part
 left_if false m r f g part h = h
 
--- what is left of a month's delta is at most its delta
+-- a month's remaining delta is at most as large as its delta
 pub left_le : (deltas rests : List MonthUnits) (p : ℕ) → Shrinks deltas rests
     → nat_abs (units_at rests p) ≤ nat_abs (units_at deltas p)
 left_le [] [] p h = omega arith

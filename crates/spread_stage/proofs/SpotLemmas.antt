@@ -18,7 +18,7 @@ use Rattle.spread_stage.specs.near.Sides.{HaveSides}
 use Rattle.spread_stage.specs.declared.months.MonthUnits.{MonthUnits}
 use Rattle.spread_stage.proofs.SizeLemmas.{left_le}
 
--- a number is not marked in a word that has not its slot
+-- a number is not marked in a machine word in which its slot is clear
 not_marked : (word number : ℕ) → meets word (with_slot 0 number) ≡ false → IsMarked word number → ⊥
 not_marked word number apart marked =
     let none : bit_and word (with_slot 0 number) ≡ 0 = grind (arith, nat_tests, apart) in
@@ -52,7 +52,7 @@ module _ (sides : OpenSides) (p : ℕ) (long : meets sides.long (with_slot 0 (mo
       units_if (m.month == p) m p (find (λ x. x.month == p) ms) refl (units_here m (All-head P m ms have))
       (closed_units ms (All-tail P m ms have))
 
--- a spot month without units has no charge
+-- the charge of a spot month without units is 0
 pub no_charge : (months rests : List MonthUnits) (s : Spot) → Shrinks months rests → units_at months s.month ≡ pos 0
     → spot_charge months rests s ≡ 0
 no_charge months rests s shrinks none =

@@ -1,4 +1,4 @@
--- The sizes of month deltas, of charges, and of what spreads leave.
+-- Bounds on month deltas, charges and remaining deltas.
 use Rattle.std.proofs.Common.{ℕ, ◌*◌, ◌<◌, ◌≤◌, List, [], ◌∷◌, length, get_or, fold, sum_by, ap, arith, lit<}
 use Rattle.std.specs.Prelude.{pos, ◌*ℤ◌, All, nat_abs}
 use Rattle.std.proofs.Math.Nat.{mul-le-mul, mul-le-mul_right}
@@ -42,7 +42,7 @@ units_small h x y z =
     product_size (h.net *ℤ h.contract.delta) (pos h.contract.scale) (MAX_NET * MAX_DELTA) MAX_SCALE
     (product_size h.net h.contract.delta MAX_NET MAX_DELTA x y) z
 
--- month deltas are at most as large as the contracts' deltas together
+-- the total size of month deltas is at most the number of contracts times the largest delta
 deltas_size : (held : List HeldContract) (m : ℕ) → All (λ h. nat_abs (units_of h) ≤ m) held
     → total_size (month_deltas held) ≤ length held * m
 unfolding month_deltas
@@ -54,7 +54,7 @@ deltas_size (h ∷ hs) m all =
     let same = ap total_size (month_deltas-cons h hs) in
     omega (arith, first, rest, more, same)
 
--- the months of held contracts, with their deltas
+-- the month deltas of held contracts are within their bounds
 pub months_are : (held : List HeldContract) → AreHeld held → AreMonths (month_deltas held)
 unfolding largest_delta
 months_are held are =
@@ -70,7 +70,7 @@ months_are held are =
 pub no_months : AreMonths []
 no_months = record { rise = tt; small = omega arith }
 
--- a net delta is at most as large as the months' deltas together
+-- the size of the net delta is at most the total size of the months
 net_size : (months : List MonthUnits) → nat_abs (net_delta months) ≤ total_size months
 net_size [] = omega arith
 net_size (m ∷ ms) =
@@ -79,7 +79,7 @@ net_size (m ∷ ms) =
     let net = int_sum_by-cons (λ (x : MonthUnits). x.units) m ms in
     omega (arith, ints, rest, all, net)
 
--- the net delta
+-- the net delta is at most MAX_UNITS
 pub net_small : (months : List MonthUnits) → AreMonths months → nat_abs (net_delta months) ≤ MAX_UNITS
 net_small months are = omega (arith, net_size months, are.small)
 
@@ -97,7 +97,7 @@ spot_small deltas rests s are shrinks is =
     let rest : left_of rests s.month * s.outright_rate ≤ MAX_UNITS * MAX_RATE = mul-le-mul few_left is.outright_rate in
     omega (arith, used, rest)
 
--- the delivery charge of what spreads left
+-- the delivery charge of the remaining deltas
 pub delivery_small : (deltas rests : List MonthUnits) (spots : List Spot) → AreMonths deltas → Shrinks deltas rests
     → length spots ≤ MAX_SPOT_MONTHS → All IsSpot spots → delivery_charge deltas rests spots ≤ MAX_DELIVERY_CHARGE
 unfolding delivery_charge

@@ -1,4 +1,4 @@
--- What a spread's legs leave of the rests.
+-- What the legs of a spread leave of the remaining deltas.
 use Rattle.std.proofs.Common.{◌≡◌, ℕ, zero, suc, ◌+◌, ◌*◌, ◌-◌, ◌<◌, ◌≤◌, min, Bool, true, false, cond, List}
 use Rattle.std.proofs.Common.{[], ◌∷◌, refl, ap, ◌∙◌, arith, length, get_or, map, sum_by}
 use Rattle.std.specs.Prelude.{ℤ, All}
@@ -44,7 +44,7 @@ module _ (on : MarketSide) (needed : ℕ) (rests : List MonthUnits) (leg : Month
   pub leg_shrinks : (deltas : List MonthUnits) → Shrinks deltas rests → Shrinks deltas (rests_after_leg on needed rests leg)
   leg_shrinks deltas h = shrinks_after on (used_of_month rests on leg needed) (within rests on leg needed) deltas rests h
 
-  -- the sizes fall by just what the leg needs
+  -- the total size falls by exactly what the leg needs
   leg_falls : MonthsRise rests → needed ≤ tier_side rests on leg
       → total_size (rests_after_leg on needed rests leg) + needed ≡ total_size rests
   leg_falls rise enough = let e = leg_size in let all = used_total on leg rests needed rise enough in omega (arith, e, all)
@@ -104,7 +104,7 @@ module _ (d : Direction) (n : ℕ) where
       let none : n * leg.ratio ≡ 0 = ap (λ k. k * leg.ratio) e ∙ omega arith in
       ap (rests_after d n legs) (leg_none (market_side d leg.side) (n * leg.ratio) rests leg none) ∙ legs_none legs rests e
 
-  -- a spread takes at least as much off the rests as spreads are formed
+  -- the total size falls by at least the number of spreads formed
   first_falls : (leg : MonthLeg) (legs : List MonthLeg) (rests : List MonthUnits) → MonthsRise rests → 0 < leg.ratio
       → n * leg.ratio ≤ tier_side rests (market_side d leg.side) leg
       → n + total_size (rests_after d n (leg ∷ legs) rests) ≤ total_size rests
@@ -126,7 +126,7 @@ module _ (d : Direction) (n : ℕ) where
   fit_all (leg ∷ legs) rests fits small (suc k) x lt = fit_all legs rests fits.1 small k x (omega (arith, lt))
 
 module _ (d : Direction) where
-  -- the spreads formed need no more than there is
+  -- no leg of the spreads formed needs more than MAX_UNITS
   pub formed_within : (legs : List MonthLeg) (rests : List MonthUnits) → total_size rests ≤ MAX_UNITS
       → All (λ leg. spreads_formed (tier_rooms d legs rests) * leg.ratio ≤ MAX_UNITS) legs
   formed_within [] rests small k x lt = absurd (omega (arith, lt))
@@ -135,7 +135,7 @@ module _ (d : Direction) where
       fit_all d (spreads_formed (tier_rooms d (leg ∷ legs) rests)) (leg ∷ legs) rests
       (formed_fit (record { side = tier_side rests (market_side d leg.side) leg; ratio = leg.ratio }) others) small k x lt
 
-  -- the rests fall by at least as much as spreads are formed
+  -- the total size falls by at least the number of spreads formed
   pub formed_falls : (legs : List MonthLeg) (rests : List MonthUnits) → MonthsRise rests → 0 < length legs
       → All (λ leg. 0 < leg.ratio) legs
       → spreads_formed (tier_rooms d legs rests) + total_size (rests_after d (spreads_formed (tier_rooms d legs rests)) legs rests)
@@ -149,7 +149,7 @@ module _ (d : Direction) where
 two_rates : (c n k r : ℕ) → c + n * r + k * r ≡ c + (n + k) * r
 two_rates c n k r = let e : (n + k) * r ≡ n * r + k * r = add-mul n k r in omega (arith, e)
 
--- they are charged at the rate
+-- each spread formed is charged at the rate
 pub charge-spread_both_ways : (t : TierRests) (s : Intra)
     → (spread_both_ways t s).charge ≡ t.charge + ((formed_both t s).a_long + (formed_both t s).a_short) * s.rate
 unfolding spread_both_ways

@@ -1,4 +1,4 @@
--- A leg uses just what it needs of its tier's side.
+-- A leg uses exactly what it needs of its tier's side.
 use Rattle.std.proofs.Common.{◌≡◌, ℕ, ◌+◌, ◌-◌, ◌<◌, ◌≤◌, min, Bool, true, false, cond, List, [], ◌∷◌}
 use Rattle.std.proofs.Common.{◌++◌, refl, sym, ap, ◌∙◌, arith, filter, sum_by}
 use Rattle.std.specs.Prelude.{nat_lt, ◌&&◌}
@@ -15,7 +15,7 @@ use Rattle.spread_stage.specs.declared.months.MonthUnits.{MonthUnits}
 use Rattle.span_tables.specs.declared.legs.MonthLeg.{MonthLeg}
 
 module _ (on : MarketSide) (leg : MonthLeg) where
-  -- what a month adds to the side
+  -- what a month contributes to the side
   unfoldable pub weight : MonthUnits → ℕ
   weight m = cond (is_in_tier leg m) (part_on on m.units) 0
 
@@ -48,7 +48,7 @@ module _ (on : MarketSide) (leg : MonthLeg) where
   and_false true b e = e
   and_false false b e = refl
 
-  -- of months that are all earlier, the side before is the side
+  -- if all months are earlier than p, the side before p is the whole side
   before_all : (xs : List MonthUnits) (p : ℕ) → AllByRecursion (λ x. x.month < p) xs
       → side_before xs on leg p ≡ tier_side xs on leg
   before_all [] p h = refl
@@ -61,7 +61,7 @@ module _ (on : MarketSide) (leg : MonthLeg) where
       ∙ ap (λ n. cond (is_in_tier leg x) (part_on on x.units) 0 + n) (before_all xs p h.1)
       ∙ sym (sum_if (λ m. part_on on m.units) (is_in_tier leg x) x (filter (is_in_tier leg) xs))
 
-  -- of months that are none earlier, it is 0
+  -- if no month is earlier than p, the side before p is 0
   before_none : (xs : List MonthUnits) (p : ℕ) → AllByRecursion (λ x. p ≤ x.month) xs → side_before xs on leg p ≡ 0
   before_none [] p h = refl
   before_none (x ∷ xs) p h =
@@ -77,7 +77,7 @@ module _ (on : MarketSide) (leg : MonthLeg) where
   later_or_same m [] h = tt
   later_or_same m (x ∷ xs) h = (let lt : m.month < x.month = h.0 in omega arith, later_or_same m xs h.1)
 
-  -- each month of the front is earlier than each of the back
+  -- each month of the front is earlier than each month of the back
   Below : List MonthUnits → List MonthUnits → Type 0
   Below front back = AllByRecursion (λ m. AllByRecursion (λ x. x.month < m.month) front) back
 
@@ -97,7 +97,7 @@ module _ (on : MarketSide) (leg : MonthLeg) where
   used_step true part needed side = omega arith
   used_step false part needed side = omega arith
 
-  -- what the later months use, beside what the earlier ones used
+  -- what the months of the front and of the back use together
   used_rest : (needed : ℕ) (front back : List MonthUnits) → Below front back → MonthsRise back
       → sum_by (used_of_month (front ++ back) on leg needed) back + min needed (tier_side front on leg)
       ≡ min needed (tier_side front on leg + tier_side back on leg)
@@ -128,7 +128,7 @@ module _ (on : MarketSide) (leg : MonthLeg) where
   below_empty [] = tt
   below_empty (m ∷ ms) = (tt, below_empty ms)
 
-  -- a leg uses what it needs, where its side has that much
+  -- a leg uses exactly what it needs if its side has that much
   pub used_total : (rests : List MonthUnits) (needed : ℕ) → MonthsRise rests → needed ≤ tier_side rests on leg
       → sum_by (used_of_month rests on leg needed) rests ≡ needed
   used_total rests needed rise enough =
@@ -153,7 +153,7 @@ module _ (on : MarketSide) (leg : MonthLeg) where
       let more = rise_below front back rise.1 in
       (below_cons x front back (all_back x front back rise.0) more.0, more.1)
 
-  -- the part of a side before a month is the side of the months that stand before it, for code that goes through them
+  -- the side before a month is the side of the months in front of it, for code that loops over the months
   pub side_before_is : (front : List MonthUnits) (m : MonthUnits) (back : List MonthUnits) → MonthsRise (front ++ m ∷ back)
       → side_before (front ++ m ∷ back) on leg m.month ≡ tier_side front on leg
   unfolding Below

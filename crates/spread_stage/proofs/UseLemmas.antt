@@ -1,4 +1,4 @@
--- What a leg uses, in one pass over the rests, and over the months of its tier alone.
+-- What a leg uses, computed in one pass over all months and over the months of its tier alone.
 use Rattle.std.specs.Prelude.{ℤ}
 use Rattle.std.proofs.Common.{◌≡◌, ℕ, ◌+◌, ◌-◌, min, Bool, true, false, cond, List, [], ◌∷◌, ◌++◌, refl, sym, ap}
 use Rattle.std.proofs.Common.{◌∙◌, subst, arith, append_assoc, filter, map}
@@ -15,20 +15,20 @@ use Rattle.spread_stage.specs.declared.months.MonthUnits.{MonthUnits}
 use Rattle.spread_stage.proofs.SpreadLemmas.{none_used}
 use Rattle.spread_stage.proofs.UseLaws.{side_before_is, side-append, side-cons, weight}
 
--- no month is one of the leg's tier
+-- no month is in the leg's tier
 abbrev pub IsOutOfTier : MonthLeg → List MonthUnits → Type 0
 IsOutOfTier leg ms = AllByRecursion (λ m. is_in_tier leg m ≡ false) ms
 
--- each month is one of the leg's tier
+-- each month is in the leg's tier
 abbrev pub IsInTier : MonthLeg → List MonthUnits → Type 0
 IsInTier leg ms = AllByRecursion (λ m. is_in_tier leg m ≡ true) ms
 
 module _ (on : MarketSide) (leg : MonthLeg) where
-  -- what a leg that still needs so many units uses of a month
+  -- the units that a leg uses of a month if it still needs `needed` units
   abbrev used_now : ℕ → MonthUnits → ℕ
   used_now needed m = cond (is_in_tier leg m) (min (part_on on m.units) needed) 0
 
-  -- months of which a leg uses what it needs, one after the other
+  -- the months after a leg used what it needs of them, in order
   abbrev leg_in_turn : ℕ → List MonthUnits → List MonthUnits
   leg_in_turn needed [] = []
   leg_in_turn needed (m ∷ ms) =
@@ -73,7 +73,7 @@ module _ (on : MarketSide) (leg : MonthLeg) where
       (leg_in_turn (needed - side - used_now (needed - side) m) ms)
       (map (λ x. record { month = x.month; units = less_used on x.units (used_of_month rests on leg needed x) }) ms) here rest
 
-  -- one pass over the months gives the rests after a leg
+  -- one pass over the months computes the remaining deltas after a leg
   in_turn_is : (needed : ℕ) (rests : List MonthUnits) → MonthsRise rests
       → leg_in_turn needed rests ≡ rests_after_leg on needed rests leg
   in_turn_is needed rests rise =
@@ -111,7 +111,7 @@ module _ (on : MarketSide) (leg : MonthLeg) where
   none_now : (needed : ℕ) (m : MonthUnits) → is_in_tier leg m ≡ false → used_now needed m ≡ 0
   none_now needed m e = ap (λ b. cond b (min (part_on on m.units) needed) 0) e
 
-  -- months outside the tier stay as they are
+  -- months in front of the tier do not change
   out_front : (needed : ℕ) (front back : List MonthUnits) → IsOutOfTier leg front
       → leg_in_turn needed (front ++ back) ≡ front ++ leg_in_turn needed back
   out_front needed [] back out = refl
@@ -127,7 +127,7 @@ module _ (on : MarketSide) (leg : MonthLeg) where
   out_all needed back out =
       ap (leg_in_turn needed) (sym (append-nil back)) ∙ out_front needed back [] out ∙ append-nil back
 
-  -- the months of the tier are used in turn
+  -- the months of the tier are used in order
   in_front : (needed : ℕ) (tier back : List MonthUnits) → IsInTier leg tier → IsOutOfTier leg back
       → leg_in_turn needed (tier ++ back) ≡ used_in_turn on needed tier ++ back
   in_front needed [] back all out = out_all needed back out

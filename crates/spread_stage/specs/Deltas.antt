@@ -1,4 +1,4 @@
--- The deltas of months.
+-- Month deltas.
 use Rattle.std.specs.Prelude.{ℕ, ◌==◌, nat_lt, if◌then◌else◌, List, [], ◌∷◌, map, filter, find, unwrap_or, option_map}
 use Rattle.std.specs.Prelude.{ℤ, pos, ◌*ℤ◌}
 use Rattle.span_money.specs.Numbers.{int_sum_by}
@@ -9,12 +9,12 @@ use Rattle.spread_stage.specs.declared.months.MonthUnits.{MonthUnits}
 abbrev pub units_of : HeldContract → ℤ
 units_of h = (h.net *ℤ (h.contract).delta) *ℤ pos (h.contract).scale
 
--- the months with one more, rising and each once
+-- the months with one more, strictly ascending
 abbrev pub with_month : ℕ → List ℕ → List ℕ
 with_month p [] = p ∷ []
 with_month p (q ∷ qs) = if nat_lt p q then p ∷ q ∷ qs else if p == q then q ∷ qs else q ∷ with_month p qs
 
--- the months of held contracts, rising and each once
+-- the months of held contracts, strictly ascending
 abbrev pub months_of : List HeldContract → List ℕ
 months_of [] = []
 months_of (h ∷ hs) = with_month (h.contract).month (months_of hs)
@@ -31,6 +31,6 @@ month_deltas held = map (λ p. record { month = p; units = month_delta held p })
 abbrev pub net_delta : List MonthUnits → ℤ
 net_delta months = int_sum_by (λ m. m.units) months
 
--- what a month has, and 0 where it is not held
+-- the units of a month, or 0 if the month is not held
 abbrev pub units_at : List MonthUnits → ℕ → ℤ
 units_at months p = unwrap_or (option_map (λ m. m.units) (find (λ m. m.month == p) months)) (pos 0)

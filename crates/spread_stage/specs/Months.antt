@@ -1,11 +1,11 @@
--- What months and the rests of tiers keep.
+-- Invariants of months and of the remaining deltas of tiers.
 use Rattle.std.specs.Prelude.{◌≡◌, ℕ, ◌+◌, ◌*◌, ◌<◌, ◌≤◌, List, [], ◌∷◌, sum_by, ⊤, ℤ, pos, negsuc, nat_abs}
 use Rattle.std.specs.List.{AllByRecursion}
 use Rattle.span_tables.specs.declared.limits.TheConstants.{MAX_RATE, MAX_UNITS}
 use Rattle.spread_stage.specs.Spreads.{TierRests}
 use Rattle.spread_stage.specs.declared.months.MonthUnits.{MonthUnits}
 
--- the months rise, so that each stands once
+-- the months are strictly ascending, so no month appears twice
 abbrev pub MonthsRise : List MonthUnits → Type 0
 MonthsRise [] = ⊤
 MonthsRise (m ∷ ms) = AllByRecursion (λ n. m.month < n.month) ms × MonthsRise ms
@@ -14,24 +14,25 @@ MonthsRise (m ∷ ms) = AllByRecursion (λ n. m.month < n.month) ms × MonthsRis
 abbrev pub total_size : List MonthUnits → ℕ
 total_size months = sum_by (λ m. nat_abs m.units) months
 
--- months with their units: they rise, and no sum over them is too large
+-- months with their units: strictly ascending, with a bounded total size
 pub record AreMonths (months : List MonthUnits) : Type 0 where
   pub rise : MonthsRise months
   pub small : total_size months ≤ MAX_UNITS
 
--- rests and charge: the months rise, and what is charged beside what is left to be charged is not too large
+-- remaining deltas and charge: the months are strictly ascending, and the charge plus what can still be charged is
+-- bounded
 pub record AreTierRests (t : TierRests) : Type 0 where
   pub rise : MonthsRise t.rests
   pub small : t.charge + MAX_RATE * total_size t.rests ≤ MAX_RATE * MAX_UNITS
 
--- the second number is not larger in size than the first, and not of the other sign
+-- the second number is at most as large in size as the first and does not have the opposite sign
 abbrev pub IsPartOf : ℤ → ℤ → Type 0
 IsPartOf (pos n) (pos k) = k ≤ n
 IsPartOf (pos n) (negsuc k) = ⊥
 IsPartOf (negsuc n) (pos k) = k ≡ 0
 IsPartOf (negsuc n) (negsuc k) = k ≤ n
 
--- rests stand by the months of the deltas, in order, and each rest is a part of its month's delta
+-- the remaining deltas have the months of the deltas, in the same order, and each is a part of its month's delta
 abbrev pub Shrinks : List MonthUnits → List MonthUnits → Type 0
 Shrinks [] [] = ⊤
 Shrinks [] (r ∷ rests) = ⊥

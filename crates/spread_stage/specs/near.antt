@@ -1,4 +1,4 @@
--- What no promise's words stand on: forms near to the code, what types keep, samples.
+-- Definitions that no top-level guarantee depends on: implementation-level specs, type invariants and samples.
 pub mod Places
 pub mod Samples
 pub mod Sides

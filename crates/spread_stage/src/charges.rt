@@ -14,25 +14,27 @@ use span_money::division::ceil_div;
 use span_tables::limits::{MAX_RATE, MAX_SPOT_MONTHS, MAX_UNITS};
 use span_tables::records::Spot;
 
-// One spread in 10^-4 spreads, and so one minor unit of the exact sum of spreads times rates.
+// One spread in 10^-4 spreads, which is also one minor unit in the exact sum of spreads times rates.
 const WHOLE_SPREAD: u128 = 10_000;
-// One delta in units of 10^-8, and so one minor unit of the exact sum of units times rates.
+// One delta in units of 10^-8, which is also one minor unit in the exact sum of units times rates.
 const WHOLE_DELTA: u128 = 100_000_000;
 
-// The number of spot months, at most, that are looked up one by one. To make the open sides of the months takes longer.
+// The largest number of spot months that are looked up one by one. For so few, computing the open sides of the months
+// takes longer.
 const FEW_SPOT_MONTHS: usize = 8;
 
 /// The largest intracommodity charge, in minor units: as many 10^-4 spreads as there are units, at the largest rate.
 pub const MAX_INTRA_CHARGE: u128 = MAX_UNITS as u128 * MAX_RATE as u128 / WHOLE_SPREAD;
 
-/// The largest delivery charge, in minor units: all units in each spot month, used and left, at the largest rate.
+/// The largest delivery charge, in minor units: in each spot month, all units both used and left, at the largest rate.
 pub const MAX_DELIVERY_CHARGE: u128 = 2
     * MAX_UNITS as u128
     * MAX_RATE as u128
     * MAX_SPOT_MONTHS as u128
     / WHOLE_DELTA;
 
-/// The intracommodity charge, in minor units, of the exact sum of spreads times rates in 10^-4 minor units: rounded up once.
+/// Returns the intracommodity charge in minor units, rounded up once, for the exact sum of spreads times rates in 10^-4
+/// minor units.
 #[tactic(auto, unfolding(crate::specs::Charges::intra_charge))]
 pub fn rounded_charge(exact: u128) -> Money
     requires { exact ≤ MAX_RATE * MAX_UNITS }
@@ -42,7 +44,7 @@ pub fn rounded_charge(exact: u128) -> Money
     Money::new(ceil_div(exact, WHOLE_SPREAD) as i128)
 }
 
-/// The intracommodity charge of the spreads formed, in minor units, rounded up once.
+/// Returns the intracommodity charge of the spreads formed, in minor units, rounded up once.
 pub fn intra_charge(tiers: &TierState) -> Money
     ensures value { result ≡ pos (intra_charge tiers.now.charge) }
     ensures bound { nat_abs result ≤ MAX_INTRA_CHARGE }
@@ -50,8 +52,8 @@ pub fn intra_charge(tiers: &TierState) -> Money
     rounded_charge(tiers.charge())
 }
 
-/// A spot month's delta: what spreads used of it and what they left, both without a sign in units of 10^-8, and the month's
-/// exact charge in 10^-8 minor units.
+/// What spreads used and left of a spot month's delta, as sizes in units of 10^-8, and the month's exact charge in
+/// 10^-8 minor units.
 #[derive(Clone, Copy, Debug, PartialEq, Eq)]
 pub struct SpotUse {
     pub used: u64,
@@ -59,14 +61,14 @@ pub struct SpotUse {
     pub charge: u128,
 }
 
-// The month of a number, where it is held.
+// Returns the month with a number, if it is held.
 fn find_month(months: &[MonthUnits], month: u32) -> Option<&MonthUnits>
     ensures { option_copied result ≡ find (λ m. m.month == month) months.now }
 {
     months.iter().find(|m| m.month == month)
 }
 
-// What a month has, in units of 10^-8, or 0 where it is not held.
+// Returns the units of a month, in units of 10^-8, or 0 if the month is not held.
 fn units_at(months: &[MonthUnits], month: u32) -> Units
     ensures { result ≡ units_at months.now month }
 {
@@ -76,7 +78,7 @@ fn units_at(months: &[MonthUnits], month: u32) -> Units
     }
 }
 
-// The size of what a month has, in units of 10^-8.
+// Returns the size of a month's units, in units of 10^-8.
 #[tactic(auto, using(crate::proofs::SizeLemmas::units_at_le))]
 fn size_at(months: &[MonthUnits], month: u32) -> u64
     requires { total_size months.now ≤ MAX_UNITS }
@@ -86,7 +88,7 @@ fn size_at(months: &[MonthUnits], month: u32) -> u64
     units_at(months, month).get().unsigned_abs()
 }
 
-// The charge of a spot month, in 10^-8 minor units.
+// Returns the charge of a spot month, in 10^-8 minor units.
 #[tactic(auto, using(crate::proofs::SizeLemmas::left_le))]
 fn spot_charge(months: &[MonthUnits], rests: &[MonthUnits], spot: &Spot) -> u128
     requires months { total_size months.now ≤ MAX_UNITS }
@@ -105,8 +107,8 @@ fn spot_charge(months: &[MonthUnits], rests: &[MonthUnits], spot: &Spot) -> u128
     at_rate(used, spot.spread_rate) + at_rate(left, spot.outright_rate)
 }
 
-// The charges of many spot months, in 10^-8 minor units. For most of them the open sides of the months show that there are no
-// units, and so no charge.
+// Returns the sum of the charges of many spot months, in 10^-8 minor units. For most spot months the open sides of the
+// months show that there are no units, and so no charge.
 fn many_spot_charges(months: &[MonthUnits], rests: &[MonthUnits], spots: &[Spot]) -> u128
     requires months { total_size months.now ≤ MAX_UNITS }
     requires rests { total_size rests.now ≤ MAX_UNITS }
@@ -126,7 +128,7 @@ fn many_spot_charges(months: &[MonthUnits], rests: &[MonthUnits], spots: &[Spot]
     sum
 }
 
-// The charges of spot months, in 10^-8 minor units.
+// Returns the sum of the charges of spot months, in 10^-8 minor units.
 fn spot_charges(months: &[MonthUnits], rests: &[MonthUnits], spots: &[Spot]) -> u128
     requires months { total_size months.now ≤ MAX_UNITS }
     requires rests { total_size rests.now ≤ MAX_UNITS }
@@ -146,8 +148,8 @@ fn spot_charges(months: &[MonthUnits], rests: &[MonthUnits], spots: &[Spot]) -> 
     sum
 }
 
-/// The delivery charge of the spot months, in minor units, rounded up once: what spreads used of each month's delta
-/// at its spread rate, and what is left at its outright rate.
+/// Returns the delivery charge of the spot months, in minor units, rounded up once. In each month, the delta that
+/// spreads used is charged at the spread rate, and the remaining delta at the outright rate.
 #[tactic(auto, unfolding(crate::specs::Charges::delivery_charge))]
 pub fn delivery(months: &Months, tiers: &TierState, spots: &[Spot]) -> Money
     requires shrinks { Shrinks months.now tiers.now.rests }
@@ -160,8 +162,8 @@ pub fn delivery(months: &Months, tiers: &TierState, spots: &[Spot]) -> Money
     Money::new(ceil_div(sum, WHOLE_DELTA) as i128)
 }
 
-/// What spreads used and left of a spot month's delta, and its charge at the month's two rates. Without a delta all three
-/// are 0.
+/// Returns what spreads used and left of a spot month's delta, and its charge at the month's two rates. If the month
+/// has no delta, all three are 0.
 #[tactic(auto, using(crate::proofs::SizeLemmas::left_le))]
 pub fn spot_use(months: &Months, tiers: &TierState, spot: &Spot) -> SpotUse
     requires shrinks { Shrinks months.now tiers.now.rests }
@@ -179,7 +181,7 @@ pub fn spot_use(months: &Months, tiers: &TierState, spot: &Spot) -> SpotUse
     SpotUse { used, left, charge }
 }
 
-/// The delta of a month (`yyyymm`), in units of 10^-8, and 0 where it is not held.
+/// Returns the delta of a month (`yyyymm`), in units of 10^-8, or 0 if the month is not held.
 pub fn month_units(months: &Months, month: u32) -> Units
     ensures { result ≡ units_at months.now month }
 {

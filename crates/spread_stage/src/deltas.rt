@@ -13,7 +13,7 @@ use span_tables::held::Held;
 use span_tables::records::Contract;
 use std::alloc::{AllocError, Global};
 
-// The delta of a net quantity of a contract, in units of 10^-8.
+// Returns the delta of a net quantity of a contract, in units of 10^-8.
 fn units_of(contract: &Contract, net: i64) -> i64
     requires net { nat_abs net ≤ MAX_NET }
     requires contract { IsContract contract.now }
@@ -25,7 +25,7 @@ fn units_of(contract: &Contract, net: i64) -> i64
     net * delta * scale
 }
 
-// Adds units at the end: to those of the last month, if that is the month, or as one month more.
+// Adds units to the last month, or appends a new month if the last month is another one.
 fn add(months: &mut Vec<MonthUnits>, month: u32, units: i64) -> Result<(), AllocError>
     requires small { total_size months.old.items + nat_abs units ≤ MAX_UNITS }
     ensures { OnOk result (months.new.items ≡ with_units_last month units months.old.items) }
@@ -44,7 +44,7 @@ fn add(months: &mut Vec<MonthUnits>, month: u32, units: i64) -> Result<(), Alloc
     Ok(())
 }
 
-// The months of a list that is sorted by month, each once, with the sum of its units.
+// Returns the months of a list that is sorted by month, each once, with the sum of its units.
 fn joined(alloc: Global, sorted: &[MonthUnits]) -> Result<Vec<MonthUnits>, AllocError>
     requires sorted { IsNonDecreasingBy (λ m. m.month) sorted.now }
     requires small { total_size sorted.now ≤ MAX_UNITS }
@@ -58,7 +58,7 @@ fn joined(alloc: Global, sorted: &[MonthUnits]) -> Result<Vec<MonthUnits>, Alloc
     Ok(months)
 }
 
-// The months of a list in any order, rising and each once, with the sum of its units.
+// Returns the months of a list in any order, strictly ascending, each with the sum of its units.
 fn rising(mut months: Vec<MonthUnits>) -> Result<Vec<MonthUnits>, AllocError>
     requires { total_size months.items ≤ MAX_UNITS }
     ensures { IfOk result (λ rising. rising.items ≡ gathered months.items) }
@@ -67,10 +67,10 @@ fn rising(mut months: Vec<MonthUnits>) -> Result<Vec<MonthUnits>, AllocError>
     joined(*months.allocator(), months.as_slice())
 }
 
-// The months in which contracts are held, rising, each with the sum of its contracts' deltas. They use the memory of the list
-// that is passed.
+// Returns the months in which contracts are held, strictly ascending, each with the sum of its contracts' deltas.
+// Reuses the memory of the list that is passed.
 //
-// If the contracts stand by rising month, as they mostly do, they are gone over once and nothing is sorted.
+// If the contracts are in ascending order of month, as they usually are, one pass is enough and nothing is sorted.
 #[tactic(auto, unfolding(crate::specs::Deltas::month_deltas))]
 fn refilled(mut months: Vec<MonthUnits>, held: &Held) -> Result<Vec<MonthUnits>, AllocError>
     ensures value { IfOk result (λ months. months.items ≡ month_deltas held.now) }
@@ -93,7 +93,8 @@ fn refilled(mut months: Vec<MonthUnits>, held: &Held) -> Result<Vec<MonthUnits>,
 }
 
 impl Months {
-    /// Makes these the months in which contracts are held, as `month_deltas` gives them, and uses their memory again.
+    /// Replaces the months by those in which contracts are held, as `month_deltas` returns them, and reuses their
+    /// memory.
     ///
     /// If memory runs out, there are no months.
     pub fn refill(&mut self, held: &Held) -> Result<(), AllocError>
@@ -106,7 +107,8 @@ impl Months {
     }
 }
 
-/// The months (`yyyymm`) in which contracts are held, rising, each with the sum of its contracts' deltas in units of 10^-8.
+/// Returns the months (`yyyymm`) in which contracts are held, strictly ascending, each with the sum of its contracts'
+/// deltas in units of 10^-8. Fails if memory runs out.
 pub fn month_deltas(alloc: Global, held: &Held) -> Result<Months, AllocError>
     ensures { IfOk result (λ months. months ≡ month_deltas held.now) }
 {

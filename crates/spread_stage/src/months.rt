@@ -9,14 +9,14 @@ use std::alloc::Global;
 use std::marker::Model;
 use std::mem;
 
-/// A month (`yyyymm`) and a delta position in it, in units of 10^-8: its delta, or what spreads left of it.
+/// A month (`yyyymm`) and its month delta or remaining delta, in units of 10^-8.
 #[derive(Clone, Copy, Debug, PartialEq, Eq)]
 pub struct MonthUnits {
     pub month: u32,
     pub units: Units,
 }
 
-/// The months in which an account holds contracts of a commodity, rising, each with its delta.
+/// The months in which an account holds contracts of a commodity, strictly ascending, each with its delta.
 #[derive(Drop)]
 pub struct Months {
     months: Vec<MonthUnits>,
@@ -34,7 +34,7 @@ impl Model for Months {
     ghost invariant = { λ m. AreMonths m.months.items };
 }
 
-// The sum of the units of months.
+// Returns the sum of the units of months, in units of 10^-8.
 fn net_delta(months: &[MonthUnits]) -> i64
     requires { AreMonths months.now }
     ensures value { result ≡ net_delta months.now }
@@ -48,7 +48,7 @@ fn net_delta(months: &[MonthUnits]) -> i64
 }
 
 impl Months {
-    /// No months. They take no memory.
+    /// Returns an empty list of months, which takes no memory.
     pub fn none(alloc: Global) -> Months
         ensures { result ≡ [] }
     {
@@ -57,7 +57,7 @@ impl Months {
         }
     }
 
-    /// Months that rise.
+    /// Wraps months that are strictly ascending.
     pub(crate) fn new(months: Vec<MonthUnits>) -> Months
         requires { AreMonths months.items }
         ensures { result ≡ months.items }
@@ -65,7 +65,7 @@ impl Months {
         Months { months }
     }
 
-    /// Takes the months out, and leaves none.
+    /// Moves the months out and leaves none.
     pub(crate) fn take(&mut self) -> Vec<MonthUnits>
         ensures taken { result.items ≡ self.old }
         ensures left { self.new ≡ [] }
@@ -74,7 +74,7 @@ impl Months {
         mem::replace(&mut self.months, Vec::new(alloc))
     }
 
-    /// The months in order, each with its delta.
+    /// Returns the months in ascending order, each with its delta.
     pub fn as_slice(&self) -> &[MonthUnits]
         ensures value { result.now ≡ self.now }
         ensures kept { AreMonths self.now }
@@ -82,7 +82,7 @@ impl Months {
         &self.months
     }
 
-    /// The net delta: the sum over the months, in units of 10^-8.
+    /// Returns the net delta, which is the sum over the months, in units of 10^-8.
     pub fn net(&self) -> Units
         ensures value { result ≡ net_delta self.now }
         ensures bound { nat_abs result ≤ MAX_UNITS }

@@ -1,4 +1,4 @@
-//! The sides of the market on which months may have rests.
+//! The sides of the market on which months may have remaining delta.
 ghost use Rattle.std.specs.Prelude.{◌≡◌, false, List, pos};
 ghost use Rattle.spread_stage.specs.Deltas.{units_at};
 ghost use Rattle.spread_stage.specs.near.Sides.{HaveSides};
@@ -8,7 +8,7 @@ use crate::months::MonthUnits;
 use span_tables::slots::{OpenSides, Slots};
 use span_tables::tier_slots::month_count;
 
-/// The sides on which these months have their units.
+/// Returns the sides of the market on which the months have their units.
 pub fn open_sides(months: &[MonthUnits]) -> OpenSides
     ensures { HaveSides result months.now }
 {
@@ -19,7 +19,7 @@ pub fn open_sides(months: &[MonthUnits]) -> OpenSides
     sides
 }
 
-/// Whether a month (`yyyymm`) may have units, if these are the sides of all months. If `false`, it has none.
+/// Returns whether a month (`yyyymm`) may have units, if `sides` are the sides of all months. If `false`, it has none.
 pub fn may_have_units(sides: &OpenSides, month: u32) -> bool
     ensures { result ≡ false → (months : List MonthUnits) → HaveSides sides.now months → units_at months month ≡ pos 0 }
 {

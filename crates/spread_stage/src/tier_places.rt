@@ -1,4 +1,4 @@
-//! Where the months of tiers stand among the rests (docs/METHOD.md, Intracommodity spreads).
+//! The indices of the months of tiers among the remaining deltas (docs/METHOD.md, Intracommodity spreads).
 ghost use Rattle.std.specs.Prelude.{◌<◌, ◌≤◌, List, length};
 ghost use Rattle.std.specs.List.{AllWithin};
 ghost use Rattle.std.specs.List.Sorted.{IsPartitionPoint};
@@ -9,13 +9,13 @@ ghost use Rattle.spread_stage.specs.declared.months.MonthUnits.{MonthUnits};
 use crate::months::MonthUnits;
 use span_tables::legs::MonthLeg;
 
-// The number of months, at most, that are gone through one by one.
+// The largest number of months that are searched one by one.
 const FEW_MONTHS: usize = 8;
 
-// The number of tiers, at most, whose places are remembered.
+// The largest number of tiers whose indices are remembered.
 const REMEMBERED_TIERS: usize = 16;
 
-// The first and the last month of a tier (`yyyymm`), and where its months stand: from `start` on, and before `end`.
+// The first and the last month of a tier (`yyyymm`), and the indices of its months: from `start` to before `end`.
 #[derive(Clone, Copy, Default)]
 struct TierPlace {
     first: u32,
@@ -24,19 +24,19 @@ struct TierPlace {
     end: u16,
 }
 
-/// Where the months of tiers stand, for the tiers that were searched last.
+/// A cache of the indices of the months of tiers, for the tiers that were searched last.
 ///
-/// Spreads change the units of months and never the months, so a place stays as it was found. Each tier has one entry, by the
-/// remainder of its first month. Tiers that share an entry take it from each other.
+/// Spreads change the units of months but never the months, so indices stay valid. Each tier has one entry, chosen by
+/// the remainder of its first month. Tiers that share an entry replace each other.
 #[derive(Clone, Copy)]
 pub struct TierPlaces {
-    // Which entries have a tier: after `forget` none has.
+    // Which entries contain a tier. After `forget` none does.
     known: [bool; REMEMBERED_TIERS],
     places: [TierPlace; REMEMBERED_TIERS],
 }
 
 impl TierPlaces {
-    /// No tier was searched.
+    /// Returns an empty cache, in which no tier is known.
     pub fn none() -> TierPlaces
         ensures { (rests : List MonthUnits) → ArePlaces result rests }
     {
@@ -53,7 +53,7 @@ impl TierPlaces {
         self.known = [false; REMEMBERED_TIERS];
     }
 
-    /// Where the months of a leg's tier stand: from the first of the two places on, and before the second.
+    /// Returns the indices of the months of a leg's tier: from the first index to before the second.
     #[inline(always)]
     pub fn find(&mut self, rests: &[MonthUnits], leg: &MonthLeg) -> (usize, usize)
         requires rise { MonthsRise rests.now }
@@ -69,7 +69,7 @@ impl TierPlaces {
         self.search(rests, leg)
     }
 
-    // Searches the months of a leg's tier, and remembers where they stand.
+    // Searches the months of a leg's tier, and remembers their indices.
     #[inline(never)]
     fn search(&mut self, rests: &[MonthUnits], leg: &MonthLeg) -> (usize, usize)
         requires rise { MonthsRise rests.now }
@@ -92,8 +92,8 @@ impl TierPlaces {
     }
 }
 
-// A place that no month from this one on stands before, near to the first place of such a month: the months are halved
-// until few are left.
+// Returns an index before which all months are earlier than `month`, close to the first index that has no earlier
+// month. Halves the range until few months are left.
 fn place_near(rests: &[MonthUnits], month: u32) -> usize
     requires { MonthsRise rests.now }
     ensures bound { result ≤ length rests.now }
@@ -111,7 +111,7 @@ fn place_near(rests: &[MonthUnits], month: u32) -> usize
     place
 }
 
-// How many months are earlier than this one.
+// Returns the number of months that are earlier than `month`.
 fn months_before(rests: &[MonthUnits], month: u32) -> usize
     requires { MonthsRise rests.now }
     ensures bound { result ≤ length rests.now }
@@ -124,8 +124,8 @@ fn months_before(rests: &[MonthUnits], month: u32) -> usize
     place
 }
 
-// Where the months of a leg's tier stand: from the first of the two places on, and before the second. They stand together,
-// since months rise.
+// Returns the indices of the months of a leg's tier: from the first index to before the second. The months of a tier
+// are adjacent, since months are strictly ascending.
 fn tier_places(rests: &[MonthUnits], leg: &MonthLeg) -> (usize, usize)
     requires { MonthsRise rests.now }
     ensures { IsTierAt leg.now rests.now result.0 result.1 }

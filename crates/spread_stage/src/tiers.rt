@@ -1,5 +1,5 @@
-//! The rests of months after intracommodity spreads, and the exact charge of the spreads (docs/METHOD.md, Intracommodity
-//! spreads; Charges).
+//! The remaining deltas of months after intracommodity spreads, and the exact charge of the spreads (docs/METHOD.md,
+//! Intracommodity spreads; Charges).
 ghost use Rattle.std.specs.Prelude.{◌≡◌, false, ◌+◌, ◌*◌, ◌<◌, ◌≤◌, List, [], ◌∷◌, length, sum_by, All, IfOk, OnOk, OnErr};
 ghost use Rattle.span_tables.specs.Accepted.{IsIntra};
 ghost use Rattle.span_tables.specs.Sides.{part_on, spreads_formed};
@@ -22,9 +22,9 @@ use span_tables::slots::OpenSides;
 use std::alloc::{AllocError, Global};
 use std::marker::Model;
 
-/// What spreads left of the delta of each month, and the exact sum of the spreads formed times their rates.
+/// The remaining delta of each month, and the exact sum of the spreads formed times their rates.
 ///
-/// The charge is in 10^-4 minor units, since a number of spreads is one of 10^-4 spreads.
+/// The charge is in 10^-4 minor units, since spreads are counted in 10^-4 spreads.
 #[derive(Drop)]
 pub struct TierState {
     rests: Vec<MonthUnits>,
@@ -45,7 +45,7 @@ impl Model for TierState {
 }
 
 impl TierState {
-    /// No months, and nothing charged. It takes no memory.
+    /// Returns the state without months and without charge, which takes no memory.
     pub fn none(alloc: Global) -> TierState
         ensures { result ≡ unspread [] }
     {
@@ -57,9 +57,9 @@ impl TierState {
         }
     }
 
-    /// Makes this the state of these months before any spread, as `start` gives it, and uses its memory again.
+    /// Replaces the state by the state of the months before any spread, as `start` returns it, and reuses its memory.
     ///
-    /// If memory runs out, there are no months, and nothing is charged.
+    /// If memory runs out, there are no months and the charge is 0.
     pub fn restart(&mut self, months: &Months) -> Result<(), AllocError>
         ensures value { OnOk result (self.new ≡ unspread months.now) }
         ensures shrinks { OnOk result (Shrinks months.now self.new.rests) }
@@ -72,7 +72,7 @@ impl TierState {
         self.rests.extend_from_slice(months.as_slice())
     }
 
-    /// The months in order, each with what spreads left of its delta.
+    /// Returns the months in ascending order, each with its remaining delta.
     pub fn rests(&self) -> &[MonthUnits]
         ensures value { result.now ≡ self.now.rests }
         ensures kept { AreTierRests self.now }
@@ -80,7 +80,7 @@ impl TierState {
         &self.rests
     }
 
-    /// The exact sum of the spreads formed times their rates, in 10^-4 minor units.
+    /// Returns the exact sum of the spreads formed times their rates, in 10^-4 minor units.
     pub fn charge(&self) -> u128
         ensures value { result ≡ self.now.charge }
         ensures bound { result ≤ MAX_RATE * MAX_UNITS }
@@ -88,7 +88,7 @@ impl TierState {
         self.charge
     }
 
-    /// A copy of the state.
+    /// Returns a copy of the state. Fails if memory runs out.
     pub fn copied(&self, alloc: Global) -> Result<TierState, AllocError>
         ensures { IfOk result (λ tiers. tiers ≡ self.now) }
     {
@@ -101,8 +101,8 @@ impl TierState {
         })
     }
 
-    /// Whether a spread may be formed. `false` tells that it changes nothing; `true` tells nothing, since a side that spreads
-    /// used up still counts.
+    /// Returns whether a spread may be formed. If `false`, the spread changes nothing. If `true`, it may still form
+    /// nothing, since a side that spreads used up still counts.
     #[inline(always)]
     pub fn may_spread(&self, intra: &Intra) -> bool
         ensures { result ≡ false → spread_both_ways self.now intra.now ≡ self.now }
@@ -121,7 +121,8 @@ impl TierState {
         self.spread_counted(intra);
     }
 
-    /// Forms one more spread as `spread` does, and tells how many spreads it forms in each direction, in 10^-4 spreads.
+    /// Forms one more spread as `spread` does, and returns the number of spreads formed in each direction, in 10^-4
+    /// spreads.
     #[inline(always)]
     pub fn spread_counted(&mut self, intra: &Intra) -> SpreadsFormed
         requires { IsIntra intra.now }
@@ -134,8 +135,8 @@ impl TierState {
         SpreadsFormed { a_long, a_short }
     }
 
-    // Forms a spread in one direction, and gives how many spreads, in 10^-4 spreads. For most spreads the open sides of their legs'
-    // months tell that nothing forms.
+    // Forms a spread in one direction, and returns the number of spreads formed, in 10^-4 spreads. For most spreads the
+    // open sides of the legs' months show that nothing forms.
     #[inline(always)]
     fn spread_one_way(&mut self, direction: Direction, intra: &Intra) -> u64
         requires { IsIntra intra.now }
@@ -152,7 +153,7 @@ impl TierState {
     }
 }
 
-// What months have on a side of the market, in units of 10^-8.
+// Returns the sum of the months' parts on a side of the market, in units of 10^-8.
 fn sum_on(months: &[MonthUnits], on: MarketSide) -> u64
     requires { sum_by (λ m. part_on on m.units) months.now ≤ MAX_UNITS }
     ensures { result ≡ sum_by (λ m. part_on on m.units) months.now }
@@ -160,7 +161,7 @@ fn sum_on(months: &[MonthUnits], on: MarketSide) -> u64
     months.iter().map(|month| part_on(on, month.units)).sum()
 }
 
-// The side of a leg's tier, in units of 10^-8: the sum of its months' parts.
+// Returns the side of a leg's tier, in units of 10^-8, which is the sum of its months' parts.
 fn tier_side(rests: &[MonthUnits], places: &mut TierPlaces, on: MarketSide, leg: &MonthLeg) -> u64
     requires rise { MonthsRise rests.now }
     requires small { total_size rests.now ≤ MAX_UNITS }
@@ -172,7 +173,7 @@ fn tier_side(rests: &[MonthUnits], places: &mut TierPlaces, on: MarketSide, leg:
     sum_on(&rests[start..end], on)
 }
 
-// How many spreads a leg has room for, in 10^-4 spreads.
+// Returns the number of spreads that a leg has room for, in 10^-4 spreads.
 fn room(rests: &[MonthUnits], places: &mut TierPlaces, direction: Direction, leg: &MonthLeg) -> u64
     requires rise { MonthsRise rests.now }
     requires small { total_size rests.now ≤ MAX_UNITS }
@@ -188,7 +189,7 @@ fn room(rests: &[MonthUnits], places: &mut TierPlaces, direction: Direction, leg
     greatest_fit(side, leg.ratio)
 }
 
-// The number of spreads that the legs have room for, in 10^-4 spreads.
+// Returns the number of spreads that all legs have room for, in 10^-4 spreads.
 fn spreads_formed(
     rests: &[MonthUnits],
     places: &mut TierPlaces,
@@ -215,7 +216,7 @@ fn spreads_formed(
     }
 }
 
-// Takes so many units on a side of the market, from the earliest month on.
+// Uses `needed` units on a side of the market, from the earliest month on.
 fn use_months(months: &mut [MonthUnits], on: MarketSide, needed: u64)
     requires { total_size months.old ≤ MAX_UNITS }
     ensures { months.new ≡ used_in_turn on needed months.old }
@@ -228,7 +229,7 @@ fn use_months(months: &mut [MonthUnits], on: MarketSide, needed: u64)
     }
 }
 
-// Takes what a leg needs of its tier's side, from the earliest month on.
+// Uses what a leg needs of its tier's side, from the earliest month on.
 fn use_leg(
     rests: &mut [MonthUnits],
     places: &mut TierPlaces,
@@ -246,7 +247,7 @@ fn use_leg(
     use_months(&mut rests[start..end], on, needed);
 }
 
-// Takes what each leg of so many spreads needs, one leg after the other.
+// Uses what each leg needs for the number of spreads, one leg after the other.
 fn use_legs(
     rests: &mut [MonthUnits],
     places: &mut TierPlaces,
@@ -267,7 +268,7 @@ fn use_legs(
     }
 }
 
-// Forms a spread in one direction, and gives the number of spreads formed, in 10^-4 spreads.
+// Forms a spread in one direction, and returns the number of spreads formed, in 10^-4 spreads.
 #[inline(never)]
 fn form(
     rests: &mut [MonthUnits],
@@ -294,7 +295,7 @@ fn form(
     formed
 }
 
-// What a number costs at a rate: of units in 10^-8 minor units, of 10^-4 spreads in 10^-4 minor units.
+// Returns an amount times a rate: in 10^-8 minor units for units of delta, in 10^-4 minor units for 10^-4 spreads.
 pub(crate) fn at_rate(units: u64, rate: u32) -> u128
     requires units { units ≤ MAX_UNITS }
     requires rate { rate ≤ MAX_RATE }
@@ -304,7 +305,8 @@ pub(crate) fn at_rate(units: u64, rate: u32) -> u128
     u128::from(units) * u128::from(rate)
 }
 
-/// The state before any spread: each month's rest is its delta, and nothing is charged.
+/// Returns the state before any spread: each month's remaining delta is its month delta, and the charge is 0. Fails if
+/// memory runs out.
 pub fn start(alloc: Global, months: &Months) -> Result<TierState, AllocError>
     ensures value { IfOk result (λ tiers. tiers ≡ unspread months.now) }
     ensures shrinks { IfOk result (λ tiers. Shrinks months.now tiers.rests) }
@@ -314,7 +316,8 @@ pub fn start(alloc: Global, months: &Months) -> Result<TierState, AllocError>
     Ok(tiers)
 }
 
-/// The state after one more spread, formed in both directions, with side A long first.
+/// Returns the state after one more spread, formed in both directions, with side A long first. Fails if memory runs
+/// out.
 pub fn spread(alloc: Global, tiers: &TierState, intra: &Intra) -> Result<TierState, AllocError>
     requires { IsIntra intra.now }
     ensures value { IfOk result (λ t. t ≡ spread_both_ways tiers.now intra.now) }

@@ -1,4 +1,4 @@
-//! Worked values, computed by the definitions.
+//! Test vectors, computed by the definitions.
 ghost use Rattle.std.specs.Prelude.{◌≡◌, [], ◌∷◌, pos, neg_ℤ};
 ghost use Rattle.std.specs.List.{repeat};
 ghost use Rattle.span_tables.specs.declared.limits.TheConstants.{MAX_HELD, MAX_NET, MAX_UNITS};
@@ -14,8 +14,9 @@ fn deltas_of_two_months()
         ≡ month_units 202503 (pos 300000000) ∷ month_units 202506 (neg_ℤ (pos 200000000)) ∷ [] }
 {}
 
-// What spreads leave, and charge: two spreads of ratio 1 at rate 250 leave one long delta, a third of a spread leaves 10000 units on
-// each month, the earliest month of a tier is used first, side A may be short and B long, and a tier may be spread against itself.
+// The remaining deltas and the charge after spreads. Two spreads of ratio 1 at rate 250 leave one long delta. A third
+// of a spread leaves 10000 units on each month. The earliest month of a tier is used first. Side A may be short and B
+// long. A tier may be spread against itself.
 #[tactic(auto, unfolding(crate::specs::Spreads::after_spreads, crate::specs::Spreads::spread_both_ways))]
 fn rests_of_one_spread()
     ensures whole { after_spreads (calendar_spread 10000 ∷ [])
@@ -38,21 +39,21 @@ fn rests_of_one_spread()
         ≡ record { rests = month_units 202503 (pos 100000000) ∷ month_units 202506 (pos 0) ∷ []; charge = 2500000 } }
 {}
 
-// The charge of two spreads at rate 250, and one of 83.325, rounded up.
+// The charges of two spreads at rate 250, and of a third of a spread: 83.325 is rounded up.
 #[tactic(auto, unfolding(crate::specs::Charges::intra_charge))]
 fn charges_of_one_spread()
     ensures whole { intra_charge 5000000 ≡ 500 }
     ensures third { intra_charge 833250 ≡ 84 }
 {}
 
-// Two deltas used at 10 and one left at 20.
+// The delivery charge of two deltas used at rate 10 and one left at rate 20.
 #[tactic(auto, unfolding(crate::specs::Charges::delivery_charge))]
 fn delivery_of_one_spread()
     ensures { delivery_charge (month_units 202503 (pos 300000000) ∷ []) (month_units 202503 (pos 100000000) ∷ []) (march ∷ [])
         ≡ 40 }
 {}
 
-// Spreads with A long alone, with both, and where those with A long leave nothing for A short.
+// Spreads formed with A long only, in both directions, and with A long if that leaves nothing for A short.
 fn spreads_formed_each_way()
     ensures a_long { formed_both
         (unspread (month_units 202503 (pos 300000000) ∷ month_units 202506 (neg_ℤ (pos 200000000)) ∷ [])) (calendar_spread 10000)
@@ -66,7 +67,7 @@ fn spreads_formed_each_way()
         ≡ record { a_long = 10000; a_short = 0 } }
 {}
 
-// The largest net delta: as many contracts as may be held, each of the largest net.
+// The largest net delta: the largest number of held contracts, each with the largest net quantity.
 #[tactic(auto, unfolding(crate::specs::Deltas::month_deltas))]
 fn largest_delta()
     ensures { net_delta (month_deltas (repeat MAX_HELD (held (pos MAX_NET) largest ∷ []))) ≡ pos MAX_UNITS }

@@ -1,4 +1,4 @@
--- Contracts and spreads that the worked values speak of.
+-- Contracts and spreads that the test vectors use.
 use Rattle.std.specs.Prelude.{ℕ, [], ◌∷◌, codes, ℤ, pos}
 use Rattle.std.specs.List.{repeat}
 use Rattle.span_tables.specs.near.Samples.{contract}
@@ -15,7 +15,7 @@ use Rattle.span_tables.specs.declared.records.Spot.{Spot}
 abbrev pub future : ℕ → Contract
 future month = contract product.Future (codes "FA") (codes "AA") month (repeat 16 (pos 0 ∷ []))
 
--- a number of contracts
+-- a contract held with a net quantity
 abbrev pub held : ℤ → Contract → HeldContract
 held net contract = record { contract = contract; net = net }
 
@@ -45,6 +45,6 @@ own_spread = record {
 abbrev pub march : Spot
 march = record { commodity = codes "AA"; month = 202503; spread_rate = 10; outright_rate = 20 }
 
--- the largest delta and scale
+-- a contract with the largest delta and scale
 abbrev pub largest : Contract
 largest = record (future 202503) { delta = pos MAX_DELTA; scale = MAX_SCALE }

@@ -13,7 +13,7 @@ use Rattle.spread_stage.proofs.GatherLemmas.{push_last, set_last}
 use Rattle.spread_stage.proofs.deltas.add.Goals.{in_default-via-in-Some+else-last-month, in_default-via-in_default}
 use Rattle.spread_stage.proofs.deltas.add.Goals as goal
 
--- what is read at the end of a list
+-- the read at the last index returns the last element
 last_of : (xs ms : List MonthUnits) (m : MonthUnits) → xs ≡ ms → Some m ≡ slice_get xs (length xs - 1)
     → slice_get ms (length ms - 1) ≡ Some m
 last_of xs ms m same read = ap (λ (ys : List MonthUnits). slice_get ys (length ys - 1)) (sym same) ∙ sym read

@@ -63,7 +63,7 @@ loop-i-preserved c =
       small = omega (arith, larger, same, bound, before);
     }
 
--- once all contracts are gone over, the list has their months
+-- after the loop over all contracts, the list contains their month deltas
 pub returns-then-rise-2-clause-value : goal.returns-then-rise-2-clause-value
 returns-then-rise-2-clause-value c =
     let up = c.loop-i.invariant.rise c.if-rise-2.true in

@@ -25,7 +25,7 @@ loop-end-preserved c =
           before.order c.loop-end-test.true (c.months_before-start.ensures.parted).1 before.inside c.if-rests-end.true;
     }
 
--- the months from one place on and before another, where those behind are no longer of the tier
+-- the months of the tier are those from `start` to before `stop` if no month from `stop` on is in the tier
 placed : (leg : MonthLeg) (rests : List MonthUnits) (start stop : ℕ) → start ≤ stop → stop ≤ length rests
     → AllWithin (λ m. m.month < leg.first) rests 0 start → AllWithin (λ m. is_in_tier leg m ≡ true) rests start stop
     → AllWithin (λ m. is_in_tier leg m ≡ false) rests stop (length rests) → IsTierAt leg rests start stop

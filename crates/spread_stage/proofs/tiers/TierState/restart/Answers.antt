@@ -8,7 +8,7 @@ use Rattle.spread_stage.proofs.ClosedLemmas.{tiers_before, tiers_of_nothing}
 use Rattle.spread_stage.proofs.SizeLemmas.{shrinks_none}
 use Rattle.spread_stage.proofs.tiers.TierState.restart.Goals as goal
 
--- what the rests are after the call: the months, or nothing if memory ran out
+-- the remaining deltas after the call: the months, or none if memory runs out
 rests_are : {T E : Type 0} (r : Result T E) (months before taken rests : List MonthUnits) → before ≡ [] → taken ≡ months
     → rests ≡ cond (is_ok r) (before ++ taken) before → rests ≡ cond (is_ok r) months []
 rests_are r months before taken rests none same e =
