@@ -1,4 +1,4 @@
--- Definitions that no top-level guarantee depends on: implementation-level specs, type invariants and samples.
+-- Definitions that no top-level guarantee uses: implementation-level forms, type invariants and samples.
 pub mod Places
 pub mod Samples
 pub mod Sides
