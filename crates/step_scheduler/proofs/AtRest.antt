@@ -1,4 +1,4 @@
--- Runs in which each step is finished before the next is taken, and how many steps they have left.
+-- Runs in which each step is finished before the next is taken, and the number of steps that remain.
 use Rattle.std.specs.Prelude.{IfSome, IsSome, OnOk, Err, Ok, None, Option, Result, Some}
 use Rattle.std.proofs.Common.{◌≡◌, ℕ, zero, suc, ◌+◌, ◌<◌, ◌≤◌, ◌==◌, ◌||◌, Bool, true, false, List, [], ◌∷◌, ◌++◌}
 use Rattle.std.proofs.Common.{refl, sym, ap, ◌∙◌, subst, inl, inr, arith, eq-eqb}
@@ -17,12 +17,12 @@ abbrev pub one_if_not : Bool → ℕ
 one_if_not true = 0
 one_if_not false = 1
 
--- how many numbers below n fail the test
+-- the number of numbers below n that fail the test
 abbrev pub failing : (ℕ → Bool) → ℕ → ℕ
 failing p zero = 0
 failing p (suc n) = one_if_not (p n) + failing p n
 
--- how many of the first n steps were not taken
+-- the number of the first n steps that were not taken
 abbrev pub untaken : List Event → ℕ → ℕ
 untaken history n = failing (is_taken history) n
 
@@ -36,7 +36,7 @@ no_more : (p q : ℕ → Bool) → ((j : ℕ) → p j ≡ true → q j ≡ true)
 no_more p q keeps zero = omega arith
 no_more p q keeps (suc n) = omega (arith, one_less (p n) (q n) (keeps n), no_more p q keeps n)
 
--- where k fails one test and passes another, which all pass that pass the one, fewer fail the other
+-- fewer numbers fail test q than test p if all that pass p pass q and k passes only q
 fewer : (p q : ℕ → Bool) → ((j : ℕ) → p j ≡ true → q j ≡ true) → (k : ℕ) → p k ≡ false → q k ≡ true → (n : ℕ) → k < n
     → failing q n < failing p n
 fewer p q keeps k fails passes zero lt = absurd (omega arith)
@@ -54,11 +54,11 @@ or_last : (a b : Bool) → ((a || b) || false) ≡ ((a || false) || b)
 or_last true b = refl
 or_last false b = or-false b
 
--- the history once step k was taken and finished
+-- the history after step k was taken and finished
 abbrev pub with_step : List Event → ℕ → List Event
 with_step history k = (history ++ Take k ∷ []) ++ Finish k ∷ []
 
--- fewer steps are left that were not taken, once step k was and no other
+-- taking step k, and no other step, leaves fewer steps that were not taken
 pub fewer_after : (old new : List Event) (k n : ℕ) → k < n → is_taken old k ≡ false
     → ((j : ℕ) → is_taken new j ≡ is_taken (old ++ Take k ∷ []) j) → untaken new n < untaken old n
 fewer_after old new k n lt fresh same =
@@ -71,7 +71,7 @@ module _ (history : List Event) (k : ℕ) where
       fewer_after history (with_step history k) k n lt fresh
       (λ j. is_taken-push (history ++ Take k ∷ []) (Finish k) j ∙ or-false (is_taken (history ++ Take k ∷ []) j))
 
-  -- no step is under way then, if none was before
+  -- no step is under way after the step if none was before it
   pub still_at_rest : IsAtRest history → IsAtRest (with_step history k)
   still_at_rest rest j =
       let between : List Event = history ++ Take k ∷ [] in
@@ -79,14 +79,14 @@ module _ (history : List Event) (k : ℕ) where
       ∙ or_last (is_taken history j) (k == j) ∙ ap (λ b. (b || false) || (k == j)) (rest j)
       ∙ ap (λ b. b || (k == j)) (sym (is_finished-push history (Take k) j)) ∙ sym (is_finished-push between (Finish k) j)
 
-  -- a step that was taken last is under way
+  -- the step that was taken last is under way
   way_after_take : IsAtRest history → is_taken history k ≡ false → IsUnderWay (history ++ Take k ∷ []) k
   way_after_take rest fresh = record {
     taken = is_taken-push history (Take k) k ∙ or_right _ _ (eq-eqb k k refl);
     unfinished = is_finished-push history (Take k) k ∙ or-false (is_finished history k) ∙ sym (rest k) ∙ fresh;
   }
 
--- a board that has not failed takes the value of a step that is under way
+-- a board that has not failed accepts the value of a step that is under way
 pub takes_value : {V : Type 0} (old new : BoardView) (k : ℕ) (value : Option V) (r : Result (Unit {0}) Refused)
     → old.failed ≡ false → IsUnderWay old.history k → IsSome value → (r ≡ Err refused.Failed → old.failed ≡ true)
     → (r ≡ Err refused.NotTaken → IsUnderWay old.history k → ⊥)
@@ -98,7 +98,7 @@ takes_value old new k (Some v) (Err refused.Failed) live way some failed not_tak
     absurd (false≢true (sym live ∙ failed refl))
 takes_value old new k (Some v) (Err refused.NotTaken) live way some failed not_taken ok = absurd (not_taken refl way)
 
--- a board after it has handed out step k and got its value
+-- the board after it handed out step k and received its value
 pub after_step : {V : Type 0} (old between new : BoardView) (k : ℕ) (value : Option V) (r : Result (Unit {0}) Refused)
     → old.failed ≡ false → IsAtRest old.history → IsReady old.job.set.plan old.history k
     → between ≡ record old { history = old.history ++ Take k ∷ [] } → IsSome value

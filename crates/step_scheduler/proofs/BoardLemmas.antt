@@ -1,4 +1,4 @@
--- A board's invariant after each event.
+-- The invariant of a board is kept by each event.
 use Rattle.std.specs.Prelude.{◌↔◌, ◌⊎◌}
 use Rattle.std.proofs.Common.{◌≡◌, ℕ, zero, suc, ◌*◌, ◌<◌, ◌≤◌, ◌||◌, Bool, true, false}
 use Rattle.std.proofs.Common.{List, [], ◌∷◌, ◌++◌, length, refl, ap, ◌∙◌, sym, subst, inl, inr, arith}
@@ -53,7 +53,7 @@ sum_done [] all = refl
 sum_done (s ∷ ss) all =
     rw sum_by-cons (omega (arith, events_done s (all 0 (omega arith)), sum_done ss (λ k h. all (suc k) (omega (arith, h)))))
 
--- all steps have their values just where there were two events for each
+-- all steps have their values exactly if the history has two events for each step
 pub all_done_sum : (steps : List Progress) → (sum_by events_of steps ≡ 2 * length steps)
     ↔ ((k : ℕ) → k < length steps → is_done (progress_at steps k) ≡ true)
 all_done_sum steps = (
@@ -61,14 +61,14 @@ all_done_sum steps = (
   sum_done steps,
 )
 
--- a step that has no value yet leaves room in the history
+-- while a step has no value, the history has room for an event
 pub has_room : (job : JobView) (steps : List Progress) (history : List Event) (capacity k : ℕ)
     → IsRunBoard job steps history capacity → k < length steps → is_done (progress_at steps k) ≡ false
     → length history < capacity
 has_room job steps history capacity k b h open_k =
     let s = sum_open steps k h open_k in omega (arith, b.count, b.room)
 
--- the steps after one of them changes
+-- the steps after one of them changed
 
 progress-set_same : (steps : List Progress) (k : ℕ) (p : Progress) → k < length steps → progress_at (slice_set steps k p) k ≡ p
 progress-set_same steps k p h = get_or-set_same steps k p Waiting h
@@ -81,7 +81,7 @@ or_false : (a b : Bool) → b ≡ false → (a || b) ≡ a
 or_false true b e = refl
 or_false false b e = e
 
--- a test of the steps and one of the history agree after an event e that changes step k to p
+-- a test of the steps and a test of the history still agree after an event e that changes step k to p
 module _ (of_event : Event → ℕ → Bool) (of_history : List Event → ℕ → Bool) (of_step : Progress → Bool) where
   agree_after : ((history : List Event) (e : Event) (k : ℕ) → of_history (history ++ e ∷ []) k ≡
       (of_history history k || of_event e k)) → (steps : List Progress) (history : List Event) (e : Event) (k : ℕ)
@@ -116,7 +116,7 @@ under_way_one_event Waiting t e = absurd (false≢true t)
 under_way_one_event Taken t e = refl
 under_way_one_event Done t e = absurd (false≢true (sym e))
 
--- a step that can start is ready by the history, and the other way round
+-- a step that can start is ready according to the history
 pub ready_from_start : (job : JobView) (steps : List Progress) (history : List Event) (capacity k : ℕ)
     → IsRunBoard job steps history capacity → CanStart job.set.plan steps k → IsReady job.set.plan history k
 ready_from_start job steps history capacity k b s = record {
@@ -125,7 +125,7 @@ ready_from_start job steps history capacity k b s = record {
   fed = λ i d l. b.finished _ ∙ s.fed i d l;
 }
 
--- a board that hands out step k
+-- the invariant after the board handed out step k
 pub board_takes : (job : JobView) (steps : List Progress) (history : List Event) (capacity k : ℕ)
     → IsRunBoard job steps history capacity → CanStart job.set.plan steps k
     → IsRunBoard job (slice_set steps k Taken) (history ++ Take k ∷ []) capacity
@@ -145,7 +145,7 @@ board_takes job steps history capacity k b s =
       room = let r = b.room in omega (arith, length-set steps k Taken);
     }
 
--- a board that keeps a value of step k
+-- the invariant after the board stored the value of step k
 pub board_finishes : (job : JobView) (steps : List Progress) (history : List Event) (capacity k : ℕ)
     → IsRunBoard job steps history capacity → k < length steps → was_taken (progress_at steps k) ≡ true
     → is_done (progress_at steps k) ≡ false → IsRunBoard job (slice_set steps k Done) (history ++ Finish k ∷ []) capacity
@@ -171,7 +171,7 @@ start_has_room job steps history capacity k b s =
     let r = s.in_range in let l = b.long in
     has_room job steps history capacity k b (omega arith) (waiting_not_done _ s.waits)
 
--- a board that has not failed is complete just where all of its steps have their values
+-- a board that has not failed is complete exactly if all its steps have their values
 pub complete_where_done : (job : JobView) (steps : List Progress) (history : List Event) (capacity : ℕ) (failed : Bool)
     → IsRunBoard job steps history capacity → failed ≡ false
     → ((k : ℕ) → k < length steps → is_done (progress_at steps k) ≡ true)

@@ -1,4 +1,4 @@
--- The counters of a board after each event.
+-- The counters of a board are correct after each event.
 use Rattle.std.proofs.Common.{◌≡◌, ℕ, zero, suc, ◌+◌, ◌<◌, ◌≤◌, ◌==◌, Bool, true, false}
 use Rattle.std.proofs.Common.{List, [], ◌∷◌, ◌++◌, length, All, refl, sym, ap, ◌∙◌, subst, inl, inr}
 use Rattle.std.proofs.Common.{arith, slice_index, slice_set, replicate, if◌then◌else◌, eq-eqb, zero-add}
@@ -53,7 +53,7 @@ none_open steps (i ∷ is) all =
     let done = All-head (λ i. is_done (progress_at steps i) ≡ true) i is all in
     rw done (zero-add _ ∙ none_open steps is (All-tail (λ i. is_done (progress_at steps i) ≡ true) i is all))
 
--- a step that gets its value is one open input less, as often as it is an input
+-- when step j gets its value, the open inputs fall by the number of times that j is an input
 open_done : (steps : List Progress) (j : ℕ) → j < length steps → is_done (progress_at steps j) ≡ false
     → (is : List ℕ) → open_inputs (slice_set steps j Done) is + times j is ≡ open_inputs steps is
 open_done steps j h open_j [] = refl
@@ -68,7 +68,7 @@ open_done steps j h open_j (i ∷ is) =
       | inr other ↦ rw (get_or-set_other steps j i Done Waiting other, ne_eqb i j other) (omega arith)
     ]
 
--- an open step is counted as often as it is an input
+-- a step without a value counts as an open input as often as it is an input
 open_still : (steps : List Progress) (j : ℕ) → j < length steps → is_done (progress_at steps j) ≡ false
     → (is : List ℕ) → times j is ≤ open_inputs steps is
 open_still steps j h open_j [] = omega arith
@@ -81,7 +81,7 @@ open_still steps j h open_j (i ∷ is) =
       | inr other ↦ rw (ne_eqb i j other) (omega arith)
     ]
 
--- numbers below n, each at most so often as f says, are no more than all of these together
+-- sums over the numbers below n, for counting the elements of lists
 
 abbrev total : (ℕ → ℕ) → ℕ → ℕ
 total f zero = 0
@@ -111,7 +111,7 @@ total_le : (f : ℕ → ℕ) (n : ℕ) → ((k : ℕ) → k < n → f k ≤ 1) �
 total_le f zero h = omega arith
 total_le f (suc n) h = let t = total_le f n (λ k l. h k (omega arith)) in let here = h n (omega arith) in omega arith
 
--- a list of numbers below n has as many elements as its numbers stand in it
+-- the length of a list of numbers below n is the sum of how often each number occurs in it
 count_all : (n : ℕ) (xs : List ℕ) → All (λ x. x < n) xs → length xs ≡ total (λ k. times k xs) n
 count_all n [] all = sym (total_none n)
 count_all n (x ∷ xs) all =
@@ -120,7 +120,8 @@ count_all n (x ∷ xs) all =
     let both = total_plus (λ k. if x == k then 1 else 0) (λ k. times k xs) n in
     omega arith
 
--- two lists of numbers below n that have each number at most once together have at most n elements
+-- two lists of numbers below n have at most n elements together if each number occurs at most once in both lists
+-- together
 pub fits_together : (n : ℕ) (xs ys : List ℕ) → All (λ x. x < n) xs → All (λ x. x < n) ys
     → ((k : ℕ) → k < n → times k xs + times k ys ≤ 1) → length xs + length ys ≤ n
 fits_together n xs ys all_xs all_ys once =
@@ -155,14 +156,14 @@ module _ (plan : List StepView) (steps : List Progress) (missing : List ℕ) (lo
       let r = ready_of (was_taken (progress_at steps k)) (slice_index missing k) (let e = c.listed k h in omega arith) in
       record { in_range = h; waits = r.0; fed = open_none steps (inputs_at plan k) (sym (c.missing_is k h) ∙ r.1) }
 
-  -- where the list is empty, none can start
+  -- if the list is empty, no step can start
   pub empty_none : (capacity : ℕ) → CountsSteps plan steps missing [] capacity → (k : ℕ) → CanStart plan steps k → ⊥
   empty_none capacity c k s =
       let none = c.missing_is k s.in_range ∙ none_open steps (inputs_at plan k) s.fed in
       let listed = rw (s.waits, none) at (c.listed k s.in_range) in
       absurd (omega arith)
 
-  -- the last of the list is handed out
+  -- the counters after the last step of the list was handed out
   pub counted_takes : (rest : List ℕ) (capacity k : ℕ) → CountsSteps plan steps missing (rest ++ k ∷ []) capacity
       → k < length plan → was_taken (progress_at steps k) ≡ false → slice_index missing k ≡ 0
       → is_done (progress_at steps k) ≡ false → CountsSteps plan (slice_set steps k Taken) missing rest capacity
@@ -195,7 +196,7 @@ module _ (plan : List StepView) (steps : List Progress) (missing : List ℕ) (lo
         room = c.room;
       }
 
-  -- a step gets its value, and its users are counted down
+  -- the counters after a step got its value and its users were counted down
   pub counted_finishes : (ready missing' ready' : List ℕ) (capacity capacity' k : ℕ) → HasUsers plan
       → CountsSteps plan steps missing ready capacity → k < length plan → was_taken (progress_at steps k) ≡ true
       → is_done (progress_at steps k) ≡ false
@@ -251,7 +252,7 @@ module _ (job : JobView) (steps : List Progress) (slots : List Slot) (history : 
       listed_starts job.set.plan steps missing b.board.long ready ready_capacity k b.counted
       (times_in_range _ k ready b.counted.in_range some) some
 
-  -- where the list is empty, no step is ready
+  -- if the list is empty, no step is ready
   pub none_starts : (ready : List ℕ) (ready_capacity : ℕ)
       → IsStepped job steps slots history capacity missing ready ready_capacity → ready ≡ [] → (k : ℕ)
       → IsReady job.set.plan history k → ⊥
@@ -269,7 +270,7 @@ module _ (job : JobView) (steps : List Progress) (slots : List Slot) (history : 
     in_plan : j < length job.set.plan
     in_plan = let l = b.board.long in omega arith
 
-    -- the users of a step without a value miss something
+    -- each user of a step without a value misses at least one input
     users_miss : (k : ℕ) → 0 < times k (users_of job.set.plan j) → 0 < slice_index missing k
     users_miss k some =
         let range = times_in_range (length job.set.plan) k (users_of job.set.plan j) ((has_users _ b.board.compiled).in_range j) some in
@@ -278,7 +279,7 @@ module _ (job : JobView) (steps : List Progress) (slots : List Slot) (history : 
         let less = open_still steps j h open_j (inputs_at job.set.plan k) in
         omega arith
 
-    -- there is room for the users of a step in the list
+    -- the list has room for the users of a step without a value
     users_fit : length ready + length (users_of job.set.plan j) ≤ ready_capacity
     users_fit =
         let all = fits_together (length job.set.plan) ready (users_of job.set.plan j) b.counted.in_range
@@ -362,7 +363,7 @@ board_new job n slots capacity missing ready ready_capacity compiled fits is_n r
   counted = rw is_n counted;
 }
 
--- inputs without a value are those that are not finished
+-- the inputs without a value are exactly the inputs that are not finished
 pub open_is_unfinished : (steps : List Progress) (history : List Event)
     → ((k : ℕ) → is_finished history k ≡ is_done (progress_at steps k)) → (is : List ℕ)
     → open_inputs steps is ≡ unfinished history is
@@ -371,7 +372,7 @@ open_is_unfinished steps history same (i ∷ is) =
     ap (λ b. (if b then 0 else 1) + open_inputs steps is) (sym (same i))
     ∙ ap (λ n. (if is_finished history i then 0 else 1) + n) (open_is_unfinished steps history same is)
 
--- when all steps are finished, each of their values is stored
+-- if all steps are finished, each step's value is stored
 pub stored_when_complete : (job : JobView) (steps : List Progress) (slots : List Slot) (history : List Event) (capacity : ℕ)
     (missing ready : List ℕ) (ready_capacity j : ℕ) → IsStepped job steps slots history capacity missing ready ready_capacity
     → AllFinished job.set.plan history → j < length job.set.plan → IsSome (slot_at slots j)
@@ -382,7 +383,7 @@ open_all : (n : ℕ) (is : List ℕ) → open_inputs (replicate n Waiting) is �
 open_all n [] = refl
 open_all n (i ∷ is) = rw (nothing_done n i, open_all n is) (omega arith)
 
--- the counters of a whole plan
+-- the counters and the list of a plan in which no step was taken
 pub counters_all : (plan : List StepView) (missing ready : List ℕ) (capacity : ℕ)
     → AreInputCounts plan missing (length plan) → AreWithoutInputs plan ready (length plan) → length plan ≤ capacity
     → CountsSteps plan (replicate (length plan) Waiting) missing ready capacity

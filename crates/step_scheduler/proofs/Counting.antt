@@ -1,4 +1,4 @@
--- Counting users down.
+-- Counting down the users of a finished step.
 use Rattle.std.proofs.Common.{◌≡◌, ℕ, ◌+◌, ◌-◌, ◌<◌, ◌≤◌, List, [], ◌∷◌}
 use Rattle.std.proofs.Common.{◌++◌, length, take, drop, reverse, refl, sym, ap, ◌∙◌, subst, inl, inr, arith}
 use Rattle.std.proofs.Common.{get_or, slice_index, slice_set, get_or-set_same}
@@ -20,7 +20,7 @@ times-reverse x (y ∷ ys) =
     let split = ap (times x) (reverse-append (y ∷ []) ys) ∙ times-append x (reverse ys) (y ∷ []) in
     omega (arith, split, times-reverse x ys)
 
--- the next user, from the last to the first, is counted down for the first time
+-- user u is the next one from the last to the first, and was not counted down before
 pub record IsNextUser (users missing : List ℕ) (i u : ℕ) : Type 0 where
   pub more : take (i + 1) (reverse users) ≡ take i (reverse users) ++ u ∷ []
   pub fresh : times u (take i (reverse users)) ≡ 0

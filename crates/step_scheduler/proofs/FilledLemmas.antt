@@ -1,4 +1,4 @@
--- The figures of held commodities are pushed one after the other.
+-- The figures of held commodities are pushed in order.
 use Rattle.std.proofs.Common.{◌≡◌, ℕ, ◌+◌, ◌<◌, ◌≤◌, List, [], ◌∷◌, ◌++◌, length, ap, sym, ◌∙◌, arith, slice_set, subst, inl, inr}
 use Rattle.std.proofs.Common.{eqb, false, get_or-set_same, get_or-set_other, length-append, length-set, refl, true}
 use Rattle.std.specs.Prelude.{not, replicate, slice_index_or}
@@ -19,7 +19,7 @@ use Rattle.step_scheduler.specs.near.Figures.{AreFilled, AreHeldFigures, HasFigu
 use Rattle.step_scheduler.specs.near.Parts.{IsEnd, IsNext, IsPart, NoneHeld, figures_of_part}
 use Rattle.step_scheduler.proofs.NothingLemmas.{figures_of_nothing}
 
--- the figures of a held commodity follow from its part and from the commodities after all spreads
+-- the figures of a held commodity, computed from its part and the commodities after all spreads, are correct
 pub figures_are : (t : AcceptedTables) (holdings : List Holding) (p : Part) (states : List CommodityState) → IsPart t holdings p
     → states ≡ inter_states t holdings
     → figures_of_part p states ≡ figures_of t holdings p.commodity
@@ -36,7 +36,7 @@ no_elements (x ∷ xs) e =
     absurd (false≢true (sym e ∙ ap not (ne_eqb (length (x ∷ xs)) 0 (λ some. absurd (omega (arith, some))))))
 
 module _ (t : AcceptedTables) (holdings : List Holding) (few : length t.commodities ≤ MAX_COMMODITIES) where
-  -- at first no commodity is held
+  -- at the start no commodity has been pushed
   pub none_filled : (held : HeldFigures) → held.figures.items ≡ no_figures ∷ [] → held.places ≡ replicate MAX_COMMODITIES 0
       → AreFilled t holdings 0 held
   none_filled held is zero = record {
@@ -49,7 +49,7 @@ module _ (t : AcceptedTables) (holdings : List Holding) (few : length t.commodit
   }
 
   module _ (n : ℕ) (held : HeldFigures) (before : AreFilled t holdings n held) where
-    -- a commodity at place 0, if nothing of it is held
+    -- a commodity with index 0 has its figures if it is not held
     nothing_placed : (c : ℕ) → c < length t.commodities → place_of held c ≡ 0 → held_at t holdings c ≡ [] → HasFigures t holdings held c
     nothing_placed c lt zero none = record {
       placed = omega (arith, zero, before.some);
@@ -57,7 +57,7 @@ module _ (t : AcceptedTables) (holdings : List Holding) (few : length t.commodit
       flag = ap (λ p. not (eqb p 0)) zero ∙ sym (ap (λ hs. not (eqb (length hs) 0)) none);
     }
 
-    -- commodities that are not held are passed over
+    -- commodities that are not held are skipped
     pub filled_over : (to : ℕ) → n ≤ to → to ≤ length t.commodities → NoneHeld t holdings n to → AreFilled t holdings to held
     filled_over to le inside none = record {
       some = before.some;
@@ -72,21 +72,21 @@ module _ (t : AcceptedTables) (holdings : List Holding) (few : length t.commodit
       left = λ c at lt. before.left c (omega (arith, at, le)) lt;
     }
 
-    -- so is one commodity
+    -- one commodity that is not held is skipped
     pub one_over : n < length t.commodities → is_commodity_held t holdings n ≡ false → AreFilled t holdings (n + 1) held
     one_over lt free =
         filled_over (n + 1) (omega arith) (omega (arith, lt))
         (λ c from below. let same : n ≡ c = omega (arith, from, below) in
         subst (λ k. held_at t holdings k ≡ []) same (no_elements (held_at t holdings n) free))
 
-    -- the figures of the next commodity are pushed, which is held
+    -- the next commodity is held, and its figures are pushed
     module _ (after : HeldFigures) (f : Figures) (lt : n < length t.commodities) (right : f ≡ figures_of t holdings n)
         (some : is_commodity_held t holdings n ≡ true) (pushed : after.figures.items ≡ held.figures.items ++ f ∷ [])
         (set : after.places ≡ slice_set held.places n (length held.figures.items)) where
       longer : length after.figures.items ≡ length held.figures.items + 1
       longer = ap length pushed ∙ length-append held.figures.items (f ∷ [])
 
-      -- what was placed stays
+      -- figures that were pushed before do not change
       kept : (p : ℕ) (d : Figures) → p < length held.figures.items
           → slice_index_or after.figures.items p d ≡ slice_index_or held.figures.items p d
       kept p d inside = ap (λ xs. slice_index_or xs p d) pushed ∙ get_or_append_left held.figures.items (f ∷ []) d p inside
@@ -142,7 +142,7 @@ module _ (t : AcceptedTables) (holdings : List Holding) (few : length t.commodit
       let over = filled_over from before filled p.commodity next.behind (omega (arith, next.known)) next.none in
       one_filled p.commodity before over after f next.known (e ∙ figures_are t holdings p states is l) next.held pushed set
 
-  -- if nothing is left, all are there
+  -- if no held commodity is left, all commodities have their figures
   pub all_filled : (from : ℕ) (held : HeldFigures) → IsEnd t holdings from → AreFilled t holdings from held
       → AreHeldFigures t holdings held
   all_filled from held end filled =

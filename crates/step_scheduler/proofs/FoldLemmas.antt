@@ -1,9 +1,9 @@
--- A list is folded from its first element on.
+-- Folding a list from its first element on.
 use Rattle.std.proofs.Common.{◌≡◌, ℕ, ◌+◌, ◌<◌, List, length, take, get_or, sym, ap, ◌∙◌}
 use Rattle.std.specs.Prelude.{fold}
 use Rattle.std.proofs.lemmas.List.Sums.{fold_more}
 
--- the next element is folded in
+-- one more element is folded in
 pub folded_more : {X Y : Type 0} (f : Y → X → Y) (a : Y) (xs : List X) (i : ℕ) (x : X) (before after : Y) → i < length xs
     → x ≡ get_or xs i x → before ≡ fold f a (take i xs) → after ≡ f before x → after ≡ fold f a (take (i + 1) xs)
 folded_more f a xs i x before after lt is here more =

@@ -1,4 +1,4 @@
--- What holds of a board, whichever way it goes through its plan.
+-- Properties of a board in either form.
 use Rattle.std.proofs.Common.{◌≡◌, List}
 use Rattle.plan_compiler.specs.Compiled.{Fits, IsCompiled}
 use Rattle.step_scheduler.specs.Jobs.{JobView}
@@ -11,18 +11,18 @@ use Rattle.step_scheduler.specs.near.Forms.{IsBoard, history_of}
 use Rattle.step_scheduler.specs.near.Slots.{HasAllValues}
 use Rattle.step_scheduler.proofs.Counted.{stored_when_complete}
 
--- a run of a job's plan
+-- the history is a run of the job's plan
 pub record IsRunOf (job : JobView) (history : List Event) : Type 0 where
   pub compiled : IsCompiled job.set
   pub fits : Fits job.set.tables (job.portfolio).holdings
   pub run : IsRun job.set.plan history
 
--- what has happened on a board is a run of its job's plan
+-- the history of a board is a run of its job's plan
 pub board_runs : (job : JobView) (f : Form) → IsBoard job f → IsRunOf job (history_of f)
 board_runs job (form.Stepped s) b = record { compiled = b.board.compiled; fits = b.board.fits; run = b.board.run }
 board_runs job (form.Whole w) b = record { compiled = b.compiled; fits = b.fits; run = b.course.run }
 
--- where every step is finished, each value is stored
+-- if every step is finished, each value is stored
 pub all_values : (job : JobView) (f : Form) (s : Stepped) → f ≡ form.Stepped s → IsBoard job f
     → AllFinished job.set.plan (history_of f) → HasAllValues job s.slots.items
 all_values job f s is board all =

@@ -1,4 +1,4 @@
--- What is found of the values of a job's steps when its board is opened.
+-- The values of a job's steps that are found when its board is opened.
 use Rattle.std.proofs.Common.{◌≡◌, ◌∙◌, ℕ, ◌<◌, ◌+◌, zero, suc, List, [], ◌∷◌, length}
 use Rattle.std.proofs.Common.{drop, map, sym, ap}
 use Rattle.std.proofs.Common.{arith, slice_index_or, slice_set, length-set, option_map, unwrap_or, Global, Some}
@@ -19,18 +19,19 @@ use Rattle.step_scheduler.specs.Jobs.{JobView, meaning_at}
 use Rattle.step_scheduler.specs.near.Slots.{StoresMeanings, Slot}
 use Rattle.step_scheduler.proofs.Slots.{stores_more}
 
--- the contracts that are held of each commodity
+-- the held contracts of each commodity
 abbrev pub all_held : JobView → List (List HeldContract)
 all_held job =
     map (λ c. held_of job.set.tables.contracts (job.portfolio).holdings c.id) job.set.tables.commodities
 
--- what the slots have after the first commodities, while the others are left
+-- the slots after the values of the first commodities were stored, and the held contracts of the commodities that are
+-- left
 pub record AreFound (job : JobView) (commodity : ℕ) (left : List (List HeldContract)) (slots : List Slot) : Type 0 where
   pub long : length slots ≡ length job.set.plan
   pub means : StoresMeanings job slots
   pub others : left ≡ drop commodity (all_held job)
 
--- the first of what is left behind some
+-- the first element after the first i elements were dropped
 drop_first : {X : Type 0} (xs : List X) (i : ℕ) (x : X) (rest : List X) → drop i xs ≡ x ∷ rest
     → (i < length xs) × (((d : X) → slice_index_or xs i d ≡ x) × (drop (i + 1) xs ≡ rest))
 drop_first [] zero x rest e = absurd (let n = ap length e in omega (arith, n))
@@ -41,7 +42,7 @@ drop_first (y ∷ xs) (suc i) x rest e =
     let same : suc i + 1 ≡ suc (i + 1) = omega arith in
     (omega (arith, later.0), (later.1.0, ap (λ n. drop n (y ∷ xs)) same ∙ later.1.1))
 
--- the contracts that are held of a commodity stand at its number
+-- the held contracts of a commodity are at the index that is its number
 held_read : (job : JobView) (c : ℕ) (held : List HeldContract) → c < length job.set.tables.commodities
     → ((d : List HeldContract) → slice_index_or (all_held job) c d ≡ held)
     → held_at job.set.tables (job.portfolio).holdings c ≡ held
@@ -54,7 +55,7 @@ held_read job c held h at =
     no_commodity [] h)
     ∙ at []
 
--- one more commodity
+-- the value of one more commodity is stored
 pub found_more : (job : JobView) (c step : ℕ) (held : List HeldContract) (left left' : List (List HeldContract))
     (slots : List Slot) (v : Arc Value Global) → AreFound job c left slots → left ≡ held ∷ left'
     → step < length job.set.plan → op_at job.set.plan step ≡ op.Gather c → arc_value v ≡ value.Held held

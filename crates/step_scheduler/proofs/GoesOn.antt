@@ -1,4 +1,4 @@
--- A history in which not every step is finished leaves a step that can go on.
+-- If not every step is finished, a step can go on.
 use Rattle.std.proofs.Common.{◌≡◌, ℕ, zero, suc, ◌<◌, Bool, true, false, List, [], ◌∷◌, length, All}
 use Rattle.std.proofs.Common.{sym, ap, ◌∙◌, ◌⊎◌, inl, inr, arith, get_or}
 use Rattle.std.proofs.lemmas.Bool.{cases_eq}
@@ -13,7 +13,7 @@ use Rattle.step_scheduler.specs.near.Steps.{is_done, progress_at}
 use Rattle.step_scheduler.specs.near.Stepped.{IsRunBoard}
 use Rattle.step_scheduler.proofs.BoardLemmas.{true_or_false}
 
--- either all numbers pass the test, or one of them fails it
+-- all elements pass the test, or one of them fails it
 all_or_one : (p : ℕ → Bool) (xs : List ℕ) → All (λ i. p i ≡ true) xs ⊎
     ((m : ℕ) × (m < length xs) × (p (get_or xs m 0) ≡ false))
 all_or_one p [] = inl (All-nil (λ i. p i ≡ true))
@@ -32,7 +32,7 @@ below_more_at : (p : ℕ → Bool) (n : ℕ) → ((k : ℕ) → k < n → p k �
 below_more_at p n below here k h =
     elim (cases_eq k n) [ inl same ↦ ap p same ∙ here | inr other ↦ below k (omega arith) ]
 
--- either each number below n passes the test, or one of them fails it
+-- all numbers below n pass the test, or one of them fails it
 below_or_one : (p : ℕ → Bool) (n : ℕ) → ((k : ℕ) → k < n → p k ≡ true) ⊎ ((k : ℕ) × (k < n) × (p k ≡ false))
 below_or_one p zero = inl (λ k h. absurd (omega arith))
 below_or_one p (suc n) =
@@ -46,7 +46,7 @@ below_or_one p (suc n) =
     ]
 
 module _ (set : SetView) (compiled : IsCompiled set) (history : List Event) where
-  -- an unfinished step of a rank below the bound leads to one that can go on
+  -- if a step of a rank below the bound is not finished, some step can go on
   unfinished_goes_on : (bound k : ℕ) → compiled.rank k < bound → k < length set.plan → is_finished history k ≡ false
       → (j : ℕ) × CanGoOn set.plan history j
   unfinished_goes_on zero k low h open_k = absurd (omega arith)
@@ -64,7 +64,7 @@ module _ (set : SetView) (compiled : IsCompiled set) (history : List Event) wher
             ]
       ]
 
-  -- where not all steps are finished, one can go on
+  -- if not all steps are finished, some step can go on
   pub some_goes_on : (AllFinished set.plan history → ⊥) → (k : ℕ) × CanGoOn set.plan history k
   some_goes_on not_all =
       elim (below_or_one (is_finished history) (length set.plan)) [
@@ -72,7 +72,7 @@ module _ (set : SetView) (compiled : IsCompiled set) (history : List Event) wher
         | inr one ↦ unfinished_goes_on (suc (compiled.rank one.0)) one.0 (omega arith) one.1 one.2
       ]
 
--- a board on which some step has no value yet has a step that can go on
+-- if a step of a board has no value, some step can go on
 pub board_goes_on : (job : JobView) (steps : List Progress) (history : List Event) (capacity : ℕ)
     → IsRunBoard job steps history capacity → (((k : ℕ) → k < length steps → is_done (progress_at steps k) ≡ true) → ⊥)
     → (k : ℕ) × CanGoOn job.set.plan history k

@@ -1,4 +1,4 @@
--- The held commodities from a number on.
+-- The held commodities with numbers from a given number on.
 use Rattle.std.proofs.Common.{◌≡◌, ◌≢◌, ℕ, suc, ◌+◌, ◌<◌, ◌≤◌, List, [], ◌∷◌, length, drop, get_or}
 use Rattle.std.proofs.Common.{ap, sym, subst, add-one, arith, ◌∙◌}
 use Rattle.std.specs.Prelude.{All, not, ◌==◌}
@@ -53,7 +53,7 @@ module _ (t : AcceptedTables) (holdings : List Holding) where
             (All-cons (λ x. x.commodity ≢ c) h hs (λ e. absurd (omega (arith, a, e))) apart)),
       )
 
-  -- the list has what is held of all commodities
+  -- the list contains the held contracts of all commodities
   pub held_from : (list : List CommodityHeld) → AreHeldCommodities t holdings list → AreHeldFrom t holdings 0 list
   held_from list held =
       from_number list 0 (omega arith) held.rise held.in_range held.each held.some (λ k d lt. omega arith)
@@ -65,7 +65,7 @@ module _ (t : AcceptedTables) (holdings : List Holding) where
   few_parts (p ∷ ps) from parts =
       let b = parts.0.behind in let rest = few_parts ps (p.commodity + 1) parts.2 in omega (arith, b, rest)
 
-  -- the first of the rest of a list
+  -- the element at index i is the next held commodity, and the elements after it are the later ones
   pub next_held : (list : List CommodityHeld) (i from : ℕ) (h : CommodityHeld) → i < length list → h ≡ get_or list i h
       → AreHeldFrom t holdings from (drop i list)
       → IsNext t holdings from h.commodity × (h.held ≡ held_at t holdings h.commodity)
@@ -81,7 +81,7 @@ module _ (t : AcceptedTables) (holdings : List Holding) where
       rw (add-one i) (subst (λ x. ArePartsFrom t holdings from (x ∷ drop (suc i) parts)) (sym is)
       (subst (ArePartsFrom t holdings from) (drop-cons parts i p lt) rest))
 
-  -- nothing is left of a list
+  -- at the end of the list no held commodity is left
   pub no_held : (list : List CommodityHeld) (i from : ℕ) → length list ≤ i → AreHeldFrom t holdings from (drop i list)
       → IsEnd t holdings from
   no_held list i from le held = rw drop_all at held

@@ -1,4 +1,4 @@
--- Lemmas on histories.
+-- Lemmas about histories.
 use Rattle.std.proofs.Common.{◌≡◌, ℕ, List, [], ◌∷◌, ◌++◌, ◌||◌, ap}
 use Rattle.std.proofs.Common.{◌∙◌, sym, append_assoc, append-nil, subst}
 use Rattle.std.proofs.Math.Bool.{or_assoc, or-false}

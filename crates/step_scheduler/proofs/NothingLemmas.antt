@@ -24,13 +24,13 @@ scan_of_nothing : scan_of (scenario_sums []) ≡ no_scan
 unfolding scan_of scenario_sums
 scan_of_nothing = refl
 
--- a state without a net delta earns nothing
+-- a state without net delta earns no credit
 credit_read : (o : Option CommodityState) → (unwrap_or o (unspread_state (pos 0) 0)).net ≡ pos 0
     → unwrap_or (option_map credit_of o) 0 ≡ 0
 credit_read None e = refl
 credit_read (Some state) e = credit_zero state (ap nat_abs e)
 
--- the figures of what has no scan, charge and minimum, and no net delta
+-- the figures of a commodity without scan, charges, minimum and net delta
 figures_from_nothing : (states : List CommodityState) (c : ℕ) → (state_at states c).net ≡ pos 0
     → figures_from no_scan 0 (pos 0) (pos 0) states c ≡ no_figures
 unfolding intra_charge requirement_of
@@ -56,7 +56,7 @@ module _ (t : AcceptedTables) (holdings : List Holding) (c : ℕ) (none : held_a
       ap (minimum_of (commodity_at t c).minimum_rate (commodity_at t c).method) none
       ∙ minimum_of_nothing (commodity_at t c).minimum_rate (commodity_at t c).method
 
-  -- what is loaded of it is nothing
+  -- the state that is loaded for a commodity that is not held is empty
   pub no_state : state_of t holdings c ≡ unspread_state (pos 0) 0
   no_state = λ k. unspread_state (net_delta (no_months k)) (nothing_scanned k).price2
 
@@ -68,7 +68,7 @@ module _ (t : AcceptedTables) (holdings : List Holding) (c : ℕ) (none : held_a
   no_net lt =
       kept_at t holdings (λ state. state.net) (λ on used bp state. refl) c lt ∙ ap (λ (state : CommodityState). state.net) no_state
 
-  -- its figures are the figures of a commodity that is not held
+  -- the figures of a commodity that is not held are `no_figures`
   pub figures_of_nothing : c < length t.commodities → figures_of t holdings c ≡ no_figures
   unfolding figures_of
   figures_of_nothing lt =

@@ -1,4 +1,4 @@
--- How large what a whole run has of a held commodity may be.
+-- Bounds on the values that a whole run has for a held commodity.
 use Rattle.std.proofs.Common.{◌≡◌, ◌<◌, ◌≤◌, true, ℕ, List, length, ap, sym, subst, ◌∙◌, arith}
 use Rattle.span_tables.specs.Accepted.{IsWithinLimits}
 use Rattle.span_tables.specs.Holdings.{ArePortfolio, fits}
@@ -35,7 +35,7 @@ module _ (t : AcceptedTables) (holdings : List Holding) (limits : IsWithinLimits
         price2 = rw is.scan (price2_at_small t holdings limits portfolio known p.commodity);
       }
 
-  -- after all spreads the commodity has its state
+  -- after all spreads, the states contain the state of the part's commodity
   pub has_state : (states : List CommodityState) → p.commodity < length t.commodities → states ≡ inter_states t holdings → HasState states p
   has_state states lt all = record {
     known = let long = length-inter_states t holdings limits portfolio known in omega (arith, lt, long, ap length all);

@@ -1,4 +1,4 @@
--- The commodities are loaded by their numbers. A commodity that is not held changes nothing.
+-- Commodities are loaded in the order of their numbers. A commodity that is not held changes nothing.
 use Rattle.std.proofs.Common.{◌≡◌, ℕ, zero, suc, ◌+◌, ◌-◌, ◌<◌, ◌≤◌, List, [], ◌∷◌, ◌++◌, length, map}
 use Rattle.std.proofs.Common.{sym, ap, ◌∙◌, append_assoc, slice_set, zero-add, arith}
 use Rattle.std.specs.Prelude.{◌+ℤ◌, ℤ, pos, replicate, slice_index_or, true}
@@ -19,7 +19,7 @@ use Rattle.step_scheduler.specs.declared.held_figures.HeldFigures.{HeldFigures}
 use Rattle.step_scheduler.specs.near.Figures.{HasFigures, place_of}
 use Rattle.step_scheduler.proofs.NothingLemmas.{figures_of_nothing, no_state, no_value}
 
--- what stays the same from each number to the next stays the same
+-- a function that does not change from any number of a range to the next is equal at both ends of the range
 steady : {A : Type 0} (f : ℕ → A) (from n : ℕ) → ((c : ℕ) → from ≤ c → c < from + n → f c ≡ f (c + 1)) → f from ≡ f (from + n)
 steady f from zero same = let e : from ≡ from + 0 = omega arith in ap f e
 steady f from (suc n) same =
@@ -43,13 +43,13 @@ module _ (t : AcceptedTables) (holdings : List Holding) where
       ∙ sym (append_assoc front (state_of t holdings c ∷ []) rest)
       ∙ ap (λ xs. xs ++ rest) (sym (map-range_with_len_more (state_of t holdings) 0 c c (zero-add c)))
 
-  -- nothing is loaded of them
+  -- commodities that are not held do not change the loaded states
   pub states_over : (from to : ℕ) → from ≤ to → to ≤ length t.commodities → NoneHeld t holdings from to
       → states_loaded t holdings from ≡ states_loaded t holdings to
   states_over from to le few none =
       steady_up_to (states_loaded t holdings) from to le (λ c a b. one_over c (omega (arith, b, few)) (none c a b))
 
-  -- the next that is held is loaded
+  -- the next held commodity is loaded
   pub loaded_more : (p : Part) (from : ℕ) (before after : List CommodityState) → IsNext t holdings from p.commodity
       → IsPart t holdings p → before ≡ states_loaded t holdings from
       → after ≡ slice_set before p.commodity (unspread_state p.net (p.scan).price2) → after ≡ states_loaded t holdings (p.commodity + 1)
@@ -69,7 +69,7 @@ module _ (t : AcceptedTables) (holdings : List Holding) where
   totals_over from to le few none =
       steady_up_to (total_to t holdings) from to le (λ c a b. total_over c (omega (arith, b, few)) (none c a b))
 
-  -- the total up to the next that is held, with the requirement of the next
+  -- the total up to the next held commodity, plus the requirement of that commodity
   pub total_with : (c from : ℕ) (total : ℤ) (held : HeldFigures) (f : Figures) → IsNext t holdings from c
       → HasFigures t holdings held c → slice_index_or held.figures.items (place_of held c) f ≡ f → total ≡ total_to t holdings from
       → total +ℤ f.requirement ≡ total_to t holdings c +ℤ (figures_of t holdings c).requirement
@@ -85,7 +85,7 @@ module _ (t : AcceptedTables) (holdings : List Holding) where
   pub values_over : (from to : ℕ) → from ≤ to → NoneHeld t holdings from to → value_to t holdings from ≡ value_to t holdings to
   values_over from to le none = steady_up_to (value_to t holdings) from to le (λ c a b. value_over c (none c a b))
 
-  -- the option value up to and with the next held commodity
+  -- the option value up to and including the next held commodity
   pub value_with : (p : Part) (from : ℕ) (value : ℤ) → IsNext t holdings from p.commodity → IsPart t holdings p
       → (facts_in t).options_have_value ≡ true → value ≡ value_to t holdings from
       → value +ℤ p.worth ≡ value_to t holdings p.commodity +ℤ net_value_at t holdings p.commodity

@@ -1,4 +1,4 @@
--- In a run each finished step was taken once, and after that finished once.
+-- In a run each finished step was taken once, and then finished once.
 use Rattle.std.proofs.Common.{◌≡◌, ◌<◌, ℕ, length, true, List, [], ◌∷◌, ◌++◌, ap, ◌∙◌}
 use Rattle.std.proofs.Common.{subst, append_assoc, inl, inr, if◌then◌else◌}
 use Rattle.std.proofs.lemmas.Bool.{eqb-true, false≢true, or_cases, or_left, or_right}
@@ -9,7 +9,7 @@ use Rattle.step_scheduler.specs.Runs.{is_taken, is_finished, finishes, takes, Is
 use Rattle.step_scheduler.specs.Runs.{IsDoneOnce, AllFinished}
 use Rattle.step_scheduler.proofs.RunOnce.{run_once}
 
--- the history before its first event, and what comes then
+-- moves the first event from the later events to the earlier ones
 after_event : (before : List Event) (e : Event) (es : List Event) (k : ℕ)
     → IsTakenThenFinished ((before ++ e ∷ []) ++ es) k → IsTakenThenFinished (before ++ e ∷ es) k
 after_event before e es k = subst (λ (h : List Event). IsTakenThenFinished h k) (append_assoc before (e ∷ []) es)
@@ -43,14 +43,14 @@ taken_longer (e ∷ es) after k t =
       | inr later ↦ or_right (takes e k) (is_taken (es ++ after) k) (taken_longer es after k later)
     ]
 
--- a step that a run finished was taken
+-- a step that is finished in a run was taken
 pub finished_was_taken : (plan : List StepView) (history : List Event) → IsRun plan history → (k : ℕ)
     → is_finished history k ≡ true → is_taken history k ≡ true
 finished_was_taken plan history run k finished =
     let order = in_order plan [] history k run finished in
     ap (λ h. is_taken h k) order.is ∙ taken_longer order.before (Finish k ∷ order.after) k order.taken
 
--- in a run that finished every step, each was taken once, and after that finished once
+-- in a run that finished every step, each step was taken once and then finished once
 pub complete_once : (plan : List StepView) (history : List Event) → IsRun plan history → AllFinished plan history
     → (k : ℕ) → k < length plan → IsDoneOnce history k
 complete_once plan history run all k h =

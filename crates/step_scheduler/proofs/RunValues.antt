@@ -16,7 +16,7 @@ use Rattle.step_scheduler.specs.Runs.{values_after, values_along, run_values}
 use Rattle.step_scheduler.proofs.Histories.{is_taken-push, is_finished-push}
 use Rattle.step_scheduler.proofs.BoardLemmas.{map_same}
 
--- what is true after the events so far
+-- the invariant after the events so far
 record IsGoodSoFar (job : JobView) (before : List Event) (values : ℕ → Value) : Type 0 where
   in_range : (j : ℕ) → is_taken before j ≡ true → j < length job.set.plan
   fed : (j : ℕ) → is_taken before j ≡ true → All (λ i. is_finished before i ≡ true) (inputs_at job.set.plan j)
@@ -111,7 +111,7 @@ module _ (job : JobView) (compiled : IsCompiled job.set) (fits : Fits job.set.ta
       → map (run_values job history) (inputs_at job.set.plan k) ≡ inputs_for job k
   ready_inputs history run k ready = map_same _ _ _ (λ i d l. run_means history run _ (ready.fed i d l))
 
-  -- two runs that finished every step give each step one value
+  -- two runs that finished every step give each step the same value
   pub complete_runs_agree : (one other : List Event) → IsRun job.set.plan one → IsRun job.set.plan other
       → AllFinished job.set.plan one → AllFinished job.set.plan other → (k : ℕ) → k < length job.set.plan
       → run_values job one k ≡ run_values job other k

@@ -1,4 +1,4 @@
--- The values of a board after each event.
+-- The values of a board are correct after each event.
 use Rattle.std.proofs.Common.{◌≡◌, ℕ, zero, suc, ◌<◌, true, false, List, length, map, refl, sym, ap, Some, None}
 use Rattle.std.proofs.Common.{◌∙◌, subst, inl, inr, arith, slice_set, replicate, get_or-set_same, get_or-set_other, length-set}
 use Rattle.std.proofs.Common.{Global, get_or}
@@ -16,7 +16,7 @@ use Rattle.step_scheduler.specs.near.Steps.{is_done, progress_at, CanStart}
 use Rattle.step_scheduler.specs.near.Slots.{Slot, value_in, slot_at, value_at, StoresMeanings, AreRight, CanBeGiven}
 use Rattle.step_scheduler.proofs.BoardLemmas.{map_same}
 
--- the value of another step stays
+-- storing the meaning of step k keeps all stored values correct
 pub stores_more : (job : JobView) (slots : List Slot) (k : ℕ) (v : Arc Value Global) → k < length slots
     → StoresMeanings job slots → arc_value v ≡ meaning_at job k → StoresMeanings job (slice_set slots k (Some v))
 stores_more job slots k v at means right j some =
@@ -29,7 +29,7 @@ stores_more job slots k v at means right j some =
           ap value_in same_place ∙ means j (ap is_some (sym same_place) ∙ some)
     ]
 
--- a step that another event is about is done as before
+-- changing step k does not change whether another step is done
 done_other : (steps : List Progress) (k j : ℕ) (p : Progress) → (j ≡ k → ⊥)
     → is_done (progress_at (slice_set steps k p) j) ≡ true → is_done (progress_at steps j) ≡ true
 done_other steps k j p other done = ap is_done (sym (get_or-set_other steps k j p Waiting other)) ∙ done
@@ -47,7 +47,7 @@ done_taken steps k j h done =
     ]
 
 module _ (job : JobView) (steps : List Progress) (slots : List Slot) (values : AreRight job steps slots) where
-  -- a step that can start can be handed out
+  -- a step that can start can be handed out with its inputs
   pub can_be_given : (k : ℕ) → CanStart job.set.plan steps k → CanBeGiven job slots k
   can_be_given k s = record {
     in_range = s.in_range;
@@ -56,7 +56,7 @@ module _ (job : JobView) (steps : List Progress) (slots : List Slot) (values : A
     stored = λ i d l. values.here _ (s.fed i d l);
   }
 
-  -- after step k is handed out: its inputs stay
+  -- the values are still correct after step k is handed out
   pub right_after_take : (k : ℕ) → k < length steps → AreRight job (slice_set steps k Taken) slots
   right_after_take k h = record {
     long = values.long;
@@ -64,7 +64,7 @@ module _ (job : JobView) (steps : List Progress) (slots : List Slot) (values : A
     here = λ j done. values.here j (done_taken steps k j h done);
   }
 
-  -- after step k gets its value
+  -- the values are still correct after step k gets its value
   pub right_after_finish : (k : ℕ) (v : Arc Value Global) → k < length slots → arc_value v ≡ meaning_at job k
       → AreRight job (slice_set steps k Done) (slice_set slots k (Some v))
   right_after_finish k v at right = record {
@@ -79,12 +79,12 @@ module _ (job : JobView) (steps : List Progress) (slots : List Slot) (values : A
     ];
   }
 
--- the values that are stored of a step's inputs are what they mean
+-- the stored values of a step's inputs are the meanings of the inputs
 pub given_inputs : (job : JobView) (slots : List Slot) (k : ℕ) → CanBeGiven job slots k
     → map (value_at slots) (inputs_at job.set.plan k) ≡ inputs_for job k
 given_inputs job slots k can = map_same _ _ _ (λ i d l. can.means _ (can.stored i d l))
 
--- what is found of the step's own value is what that means
+-- if a step's own value is found, it is the step's meaning
 pub found_means : (job : JobView) (slots : List Slot) (k : ℕ) → CanBeGiven job slots k → (slot : Slot)
     → slot ≡ get_or slots k slot → (hold : Slot) → IfSome hold (λ v. IsSome slot × (arc_value v ≡ value_in slot))
     → IfSome hold (λ v. arc_value v ≡ meaning_at job k)

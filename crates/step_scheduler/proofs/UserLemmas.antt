@@ -1,4 +1,4 @@
--- The users of steps, counted.
+-- How often a step is a user of another step.
 use Rattle.std.proofs.Common.{◌≡◌, ℕ, suc, ◌+◌, ◌<◌, ◌≤◌, ◌==◌, ◌||◌, Bool, true}
 use Rattle.std.proofs.Common.{false, cond, List, [], ◌∷◌}
 use Rattle.std.proofs.Common.{length, refl, sym, ap, ◌∙◌, subst, inl, inr, arith, slice_index, zero-add, eq-eqb}
@@ -11,7 +11,7 @@ use Rattle.plan_ir.proofs.UserLaws.{users_are_steps, users_just, users_rise}
 use Rattle.plan_compiler.specs.Compiled.{IsCompiled, SetView}
 use Rattle.plan_compiler.specs.near.Beginnings.{times}
 
--- a number is at most once among numbers that do not repeat
+-- a number occurs at most once in a list without repetition
 or_no : (a b : Bool) → (a || b) ≡ false → (a ≡ false) × (b ≡ false)
 or_no true b e = absurd (false≢true (sym e))
 or_no false b e = (refl, e)
@@ -30,7 +30,7 @@ among_once j (x ∷ xs) distinct =
           rw (ne_eqb x j other, ne_eqb j x (λ e. other (sym e))) (zero-add _ ∙ among_once j xs parts.1)
     ]
 
--- numbers that rise from one on are above those before it
+-- the elements of a strictly increasing list are larger than the elements before them
 rise_on : (x : ℕ) (xs : List ℕ) → IsStrictlyIncreasing (x ∷ xs) → IsStrictlyIncreasing xs
 rise_on x xs rise k lt =
     let more : suc k + 1 ≡ suc (k + 1) = omega arith in
@@ -42,12 +42,12 @@ not_behind x (y ∷ ys) rise n le =
     let lt : x < y = rise 0 (omega arith) in
     rw (ne_eqb n y (λ e. omega (arith, e, lt, le)), not_behind y ys (rise_on x (y ∷ ys) rise) n (omega (arith, le, lt))) refl
 
--- of numbers that rise none stands twice
+-- a strictly increasing list has no repetition
 rise_distinct : (xs : List ℕ) → IsStrictlyIncreasing xs → has_repeat (λ a b. a == b) xs ≡ false
 rise_distinct [] rise = refl
 rise_distinct (x ∷ xs) rise = rw (not_behind x xs rise x (omega arith), rise_distinct xs (rise_on x xs rise)) refl
 
--- step k is a user of j once, where j is among its inputs
+-- step k is a user of step j once if j is among its inputs, and otherwise not at all
 users_count : (plan : List StepView) (j k : ℕ) → times k (users_of plan j) ≡ cond (is_step_among j (inputs_at plan k)) 1 0
 users_count plan j k =
     among_once k (users_of plan j) (rise_distinct (users_of plan j) (users_rise plan j)) ∙ ap (λ b. cond b 1 0) (users_just plan j k)
@@ -56,7 +56,7 @@ cond_le : (b : Bool) → cond b 1 0 ≤ 1
 cond_le true = omega arith
 cond_le false = omega arith
 
--- each user is a step of the plan; k is a user of j as often as j is an input of k, and at most once
+-- users are steps of the plan: k is a user of j as often as j is an input of k, and at most once
 pub record HasUsers (plan : List StepView) : Type 0 where
   pub in_range : (j : ℕ) → All (λ u. u < length plan) (users_of plan j)
   pub same : (j k : ℕ) → k < length plan → times k (users_of plan j) ≡ times j (inputs_at plan k)

@@ -1,4 +1,4 @@
--- A run in which every step is finished leaves nothing to do.
+-- In a run in which every step is finished, no step is ready and no input is missing.
 use Rattle.std.proofs.Common.{◌≡◌, ◌<◌, ℕ, length, refl, List, [], ◌∷◌, sym, ◌∙◌, arith, All}
 use Rattle.std.proofs.lemmas.Bool.{false≢true}
 use Rattle.std.proofs.lemmas.List.Elements.{All-head, All-tail}

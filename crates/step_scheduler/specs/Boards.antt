@@ -16,11 +16,11 @@ pub record IsComplete (b : BoardView) : Type 0 where
   pub live : b.failed ≡ false
   pub finished : AllFinished b.job.set.plan b.history
 
--- a set, and a run of its plan
+-- a compiled parameter set, and a run of its plan
 pub record CourseView : Type 0 where
   pub set : SetView
   pub events : List Event
 
--- what is true of a task that was handed out
+-- a property of the task, if one was handed out
 abbrev pub IfHanded : {A E : Type 0} → Result (Option A) E → (A → Type 0) → Type 0
 IfHanded result P = IfOk result (λ r. IfSome r P)

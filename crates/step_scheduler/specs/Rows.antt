@@ -3,7 +3,7 @@ use Rattle.span_tables.specs.Net.{AccountHoldings}
 use Rattle.plan_compiler.specs.Compiled.{SetView}
 use Rattle.step_scheduler.specs.Jobs.{JobView}
 
--- a compiled set, and an account's portfolio that was margined under it
+-- a compiled parameter set, and the portfolio of an account that was margined under it
 pub record RowView : Type 0 where
   pub set : SetView
   pub portfolio : AccountHoldings

@@ -10,7 +10,7 @@ use Rattle.step_scheduler.specs.Jobs.{JobView}
 use Rattle.step_scheduler.specs.declared.events.Event.{Event}
 use Rattle.step_scheduler.specs.declared.events.Event.TheVariants.{Take, Finish}
 
--- ---- what has happened
+-- ---- past events
 
 -- the event takes step k
 abbrev pub takes : Event → ℕ → Bool
@@ -32,29 +32,29 @@ abbrev pub is_finished : List Event → ℕ → Bool
 is_finished [] k = false
 is_finished (e ∷ es) k = finishes e k || is_finished es k
 
--- how often step k was taken
+-- the number of times that step k was taken
 abbrev pub times_taken : List Event → ℕ → ℕ
 times_taken [] k = 0
 times_taken (e ∷ es) k = (if takes e k then 1 else 0) + times_taken es k
 
--- how often step k was finished
+-- the number of times that step k was finished
 abbrev pub times_finished : List Event → ℕ → ℕ
 times_finished [] k = 0
 times_finished (e ∷ es) k = (if finishes e k then 1 else 0) + times_finished es k
 
--- no step was taken or finished twice
+-- no step was taken twice or finished twice
 pub record IsOnce (history : List Event) : Type 0 where
   pub taken : (k : ℕ) → times_taken history k ≡ (if is_taken history k then 1 else 0)
   pub finished : (k : ℕ) → times_finished history k ≡ (if is_finished history k then 1 else 0)
 
--- how many of these steps are not finished
+-- the number of listed steps that are not finished
 abbrev pub unfinished : List Event → List ℕ → ℕ
 unfinished history [] = 0
 unfinished history (i ∷ is) = (if is_finished history i then 0 else 1) + unfinished history is
 
--- ---- what may happen next
+-- ---- allowed next events
 
--- step k may be taken: it was not, and its inputs are finished
+-- step k may be taken: it was not taken before, and its inputs are finished
 pub record IsReady (plan : List StepView) (history : List Event) (k : ℕ) : Type 0 where
   pub in_range : k < length plan
   pub fresh : is_taken history k ≡ false
@@ -65,12 +65,12 @@ pub record IsUnderWay (history : List Event) (k : ℕ) : Type 0 where
   pub taken : is_taken history k ≡ true
   pub unfinished : is_finished history k ≡ false
 
--- the event may come after the history
+-- the event is allowed after the history
 abbrev pub IsLawful : List StepView → List Event → Event → Type 0
 IsLawful plan history (Take k) = IsReady plan history k
 IsLawful plan history (Finish k) = IsUnderWay history k
 
--- each of the later events may come after those before it
+-- each of the later events is allowed after the events before it
 abbrev pub IsRunAfter : List StepView → List Event → List Event → Type 0
 IsRunAfter plan before [] = ⊤
 IsRunAfter plan before (e ∷ es) = IsLawful plan before e × IsRunAfter plan (before ++ e ∷ []) es
@@ -94,7 +94,7 @@ pub record IsTakenThenFinished (history : List Event) (k : ℕ) : Type 0 where
   pub is : history ≡ before ++ Finish k ∷ after
   pub taken : is_taken before k ≡ true
 
--- step k was taken once, and after that finished once
+-- step k was taken once, and then finished once
 pub record IsDoneOnce (history : List Event) (k : ℕ) : Type 0 where
   pub taken : times_taken history k ≡ 1
   pub finished : times_finished history k ≡ 1
@@ -102,7 +102,7 @@ pub record IsDoneOnce (history : List Event) (k : ℕ) : Type 0 where
 
 -- ---- the values of steps
 
--- the values of steps after an event: a finished step gets the value of its operation on its inputs' values
+-- the values of steps after an event: a finished step gets the value of its operation on the values of its inputs
 abbrev pub values_after : JobView → (ℕ → Value) → Event → ℕ → Value
 values_after job values (Take j) k = values k
 values_after job values (Finish j) k =
@@ -110,7 +110,7 @@ values_after job values (Finish j) k =
     then value_on job.set.tables (job.portfolio).holdings (op_at job.set.plan j) (map values (inputs_at job.set.plan j))
     else values k
 
--- the values of steps after these events
+-- the values of steps after a list of events
 abbrev pub values_along : JobView → (ℕ → Value) → List Event → ℕ → Value
 values_along job values [] = values
 values_along job values (e ∷ es) = values_along job (values_after job values e) es

@@ -1,4 +1,4 @@
--- What no promise's words stand on: forms near to the code, what types keep, samples.
+-- Definitions that no top-level guarantee uses: implementation-level forms, type invariants and samples.
 pub mod Counts
 pub mod Figures
 pub mod Forms

@@ -1,4 +1,4 @@
-//! Boards: the runs of jobs.
+//! Boards, which run the plan of a job.
 ghost use Rattle.std.specs.Prelude.{◌≡◌, ◌<◌, ◌↔◌, ◌++◌, ◌∷◌, [], ℕ, true, false, Err};
 ghost use Rattle.std.specs.Prelude.{IfOk, IfSome, IfNone, IsTrue, OnOk, OnErr};
 ghost use Rattle.std.specs.Prelude.{IsSome, length};
@@ -35,10 +35,10 @@ use std::marker::Model;
 use std::sync::Arc;
 use thiserror::Error;
 
-/// Why a board does not take a finished step.
+/// The reason why a board rejects a finished step.
 #[derive(Clone, Copy, Debug, Drop, PartialEq, Eq, Error)]
 pub enum Refused {
-    /// The step waits, is ready, or has its value.
+    /// The step is waiting, is ready, or already has its value.
     #[error("NotTaken")]
     NotTaken,
     /// The board has failed.
@@ -46,7 +46,7 @@ pub enum Refused {
     Failed,
 }
 
-// How a board goes through its plan: its steps are handed out one by one, or all of them were run in one call.
+// How a board runs its plan: either its steps are handed out one by one, or all of them were run in one call.
 #[derive(Drop)]
 enum Form {
     Stepped(Stepped),
@@ -54,7 +54,7 @@ enum Form {
 }
 
 impl Form {
-    // What has happened to the steps, in order.
+    // Returns the events so far, in order.
     fn history(&self) -> &[Event]
         ensures { result.now ≡ history_of self.now }
     {
@@ -65,9 +65,9 @@ impl Form {
     }
 }
 
-/// The run of a job's plan: what has happened to its steps, and their values.
+/// The run of a job's plan: the events so far and the values of the steps.
 ///
-/// Contracts see the job, the history, and whether the board has failed. The values that are stored are the steps' meanings.
+/// Contracts see the job, the history, and whether the board has failed. Each stored value is the meaning of its step.
 #[derive(Drop)]
 pub struct Board {
     alloc: Global,
@@ -89,9 +89,9 @@ impl Model for Board {
 }
 
 impl Board {
-    /// A board of a job of which nothing has happened.
+    /// Creates a board of a job, with an empty history.
     ///
-    /// All the room that the board will ever need is made here.
+    /// Allocates all memory that the board itself will ever need. Fails if memory runs out.
     pub fn new(alloc: Global, job: Arc<Job>) -> Result<Board, AllocError>
         ensures { IfOk result (λ b. b ≡ record { job = arc_value job; history = []; failed = false }) }
     {
@@ -115,10 +115,12 @@ impl Board {
         })
     }
 
-    /// A board of a job on which every step of its plan was run, in one call: its history is the course of the set, which it shares.
+    /// Creates a board of a job and runs every step of its plan in one call. Its history is the course of the parameter
+    /// set, which it shares. Fails if memory runs out.
     ///
-    /// The watch is passed for each step in the order of that history, before the first is evaluated. It is passed also for the
-    /// steps of what is not held, of which nothing is evaluated. What an earlier run left in the memory changes nothing.
+    /// Calls the watch for each step in the order of that history, before the first step is evaluated. The watch is
+    /// also called for the steps of commodities that are not held, for which nothing is evaluated. What an earlier run
+    /// left in `memory` has no effect.
     pub fn whole<W: Watch>(
         alloc: Global,
         job: Arc<Job>,
@@ -130,7 +132,7 @@ impl Board {
         ensures value { IfOk result (λ b. b ≡ record { job = arc_value job; history = course.now.events; failed = false }) }
         ensures complete { IfOk result (λ b. IsComplete b) }
     {
-        // Called for its clauses: the plan keeps the plan law, and the portfolio fits the tables.
+        // This call is for its contract: the plan satisfies the plan law, and the portfolio fits the tables.
         let _plan = job.plan();
         pass_steps(course.events(), watch);
         let whole = Whole::new(alloc, &job, course, memory)?;
@@ -142,7 +144,7 @@ impl Board {
         })
     }
 
-    /// The job.
+    /// Returns the job.
     pub fn job(&self) -> &Arc<Job>
         ensures { arc_value result.now ≡ self.now.job }
     {
@@ -151,7 +153,8 @@ impl Board {
 
     /// Hands out a ready step, with the values of its inputs.
     ///
-    /// `None` where no step is ready or the board has failed. After `None` and after `Err` the board is as it was.
+    /// Returns `None` if no step is ready or the board has failed. Fails if memory runs out. The board does not change
+    /// after `None` or `Err`.
     pub fn take_ready(&mut self) -> Result<Option<Task>, AllocError>
         ensures same_job { self.new.job ≡ self.old.job }
         ensures ready { IfHanded result (λ task. IsReady self.old.job.set.plan self.old.history task.step) }
@@ -183,10 +186,11 @@ impl Board {
         }
     }
 
-    /// Stores the value of a step that was handed out, which takes no memory.
+    /// Stores the value of a step that was handed out, without allocating memory. The step's job has to be the board's
+    /// job.
     ///
-    /// The mark that there was no memory for the value makes the board failed. A board that has failed refuses every step, and
-    /// another board refuses a step that is not under way. After a refusal the board is as it was. The step's job is the board's.
+    /// If memory ran out for the value, the board fails. A board that has failed rejects every step. A board that has
+    /// not failed rejects a step that is not under way. A rejected step does not change the board.
     pub fn finish(&mut self, finished: Finished) -> Result<(), Refused>
         requires { finished.job ≡ self.old.job }
         ensures same_job { self.new.job ≡ self.old.job }
@@ -212,7 +216,7 @@ impl Board {
         Ok(())
     }
 
-    // Whether a step was handed out and has no value yet.
+    // Returns whether a step was handed out and has no value.
     fn is_under_way(&self, step: u32) -> bool
         requires { step < length self.now.job.set.plan }
         ensures { IsTrue result ↔ IsUnderWay self.now.history step }
@@ -246,14 +250,14 @@ impl Board {
         }
     }
 
-    /// Makes the board failed; what has happened stays.
+    /// Makes the board fail, and keeps its history.
     pub fn fail(&mut self)
         ensures { self.new ≡ record self.old { failed = true } }
     {
         self.failed = true;
     }
 
-    /// Whether every step has its value, and the board has not failed.
+    /// Returns whether every step has its value and the board has not failed.
     pub fn is_complete(&self) -> bool
         ensures complete { IsTrue result ↔ IsComplete self.now }
         ensures goes_on { result ≡ false → self.now.failed ≡ false
@@ -268,7 +272,7 @@ impl Board {
         }
     }
 
-    /// How many inputs of step k have no value yet.
+    /// Returns the number of inputs of step k that have no value.
     pub fn missing(&self, k: usize) -> usize
         requires { k < length self.now.job.set.plan }
         ensures { result ≡ unfinished self.now.history (inputs_at self.now.job.set.plan k) }
@@ -279,7 +283,7 @@ impl Board {
         }
     }
 
-    /// What has happened to the steps, in order.
+    /// Returns the events so far, in order.
     pub fn history(&self) -> &[Event]
         ensures history { result.now ≡ self.now.history }
         ensures run { IsRun self.now.job.set.plan self.now.history }
@@ -290,7 +294,8 @@ impl Board {
         self.form.history()
     }
 
-    /// The figures of the commodity of a number, once the board is complete. `None` before that, and past the last commodity.
+    /// Returns the figures of a commodity by its number. Returns `None` if the board is not complete or there is no
+    /// such commodity.
     pub fn figures(&self, commodity: usize) -> Option<Figures>
         ensures complete { IsSome result ↔ (IsComplete self.now × (commodity < length self.now.job.set.tables.commodities)) }
         ensures value { IfSome result (λ f. f ≡ figures_of self.now.job.set.tables self.now.job.portfolio.holdings commodity) }
@@ -304,7 +309,7 @@ impl Board {
         })
     }
 
-    /// The total, in minor units, once the board is complete, and `None` before.
+    /// Returns the total, in minor units, or `None` if the board is not complete.
     pub fn total(&self) -> Option<Money>
         ensures complete { IsSome result ↔ IsComplete self.now }
         ensures value { IfSome result (λ total. total ≡ total_to self.now.job.set.tables
@@ -319,8 +324,8 @@ impl Board {
         })
     }
 
-    /// The account's option value, in minor units, once the board is complete, and `None` before: 0 under a profile in
-    /// which options have none.
+    /// Returns the account's option value, in minor units, or `None` if the board is not complete. The option value is
+    /// 0 under a profile in which options have none.
     pub fn value(&self) -> Option<Money>
         ensures complete { IsSome result ↔ IsComplete self.now }
         ensures value { IfSome result (λ value. value ≡ option_value_of self.now.job.set.tables self.now.job.portfolio.holdings) }
@@ -334,7 +339,7 @@ impl Board {
         })
     }
 
-    /// The figures of all commodities by their numbers, handed over. The board is complete.
+    /// Consumes a complete board, and returns the figures of all commodities by number. Fails if memory runs out.
     pub fn into_figures(self, alloc: Global) -> Result<Vec<Figures>, AllocError>
         requires { IsComplete self }
         ensures { IfOk result (λ figures. AreAllFigures self.job.set.tables self.job.portfolio.holdings figures.items) }
@@ -342,7 +347,8 @@ impl Board {
         all_figures(alloc, &self)
     }
 
-    // The figures of all commodities, one value for each that is held and one for the others. The board is complete.
+    // Returns the figures of all commodities: one element for each held commodity, and one for all others. The board is
+    // complete.
     pub(crate) fn held_figures(&self, alloc: Global) -> Result<HeldFigures, AllocError>
         requires { IsComplete self.now }
         ensures { IfOk result (λ held. AreHeldFigures self.now.job.set.tables self.now.job.portfolio.holdings held) }
@@ -353,7 +359,7 @@ impl Board {
         }
     }
 
-    // The same figures, handed over.
+    // Consumes the board, and returns the same figures.
     pub(crate) fn into_held_figures(self, alloc: Global) -> Result<HeldFigures, AllocError>
         requires { IsComplete self }
         ensures { IfOk result (λ held. AreHeldFigures self.job.set.tables self.job.portfolio.holdings held) }
@@ -371,7 +377,7 @@ impl Board {
     }
 }
 
-// The figures of each commodity of a complete board, by the commodities' numbers.
+// Returns the figures of each commodity of a complete board, by number.
 fn all_figures(alloc: Global, board: &Board) -> Result<Vec<Figures>, AllocError>
     requires { IsComplete board.now }
     ensures { IfOk result (λ figures. AreAllFigures board.now.job.set.tables board.now.job.portfolio.holdings figures.items) }

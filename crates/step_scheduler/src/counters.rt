@@ -6,7 +6,7 @@ ghost use Rattle.step_scheduler.specs.near.Counts.{CanBeReleased, CountsSteps, R
 use plan_compiler::set::CompiledSet;
 use std::alloc::{AllocError, Global};
 
-// The last number of the list.
+// Returns the last number of the list.
 pub(crate) fn last_of(ready: &[u32]) -> Option<u32>
     ensures { MatchOption result (ready.now ≡ []) (λ k. ready.now ≡ take (length ready.now - 1) ready.now ++ k ∷ []) }
 {
@@ -16,7 +16,7 @@ pub(crate) fn last_of(ready: &[u32]) -> Option<u32>
     Some(ready[ready.len() - 1])
 }
 
-// The counters of a set's plan of which no step has its value, and the steps that miss nothing.
+// Returns the counters of a plan in which no step has its value, and the list of the steps that miss no input.
 pub(crate) fn counters(alloc: Global, set: &CompiledSet) -> Result<(Vec<u8>, Vec<u32>), AllocError>
     ensures { IfOk result (λ r. CountsSteps set.now.plan (replicate (length set.now.plan) Waiting)
         r.0.items r.1.items (vec_capacity r.1)) }
@@ -29,9 +29,10 @@ pub(crate) fn counters(alloc: Global, set: &CompiledSet) -> Result<(Vec<u8>, Vec
     Ok((missing, ready))
 }
 
-// Counts the users of a finished step down, and lists those that miss nothing any more.
+// Counts down the users of a finished step, and adds the users that miss no input any more to the list.
 //
-// Users are listed from the last to the first: the list is a stack, so its lowest user is the first to be handed out.
+// Users are added from the last to the first. The list is a stack, so the user with the lowest number is handed out
+// first.
 pub(crate) fn release(users: &[u32], missing: &mut Vec<u8>, ready: &mut Vec<u32>)
     requires { CanBeReleased users.now missing.old.items ready.old.items (vec_capacity ready.old) }
     ensures { Released users.now missing.old.items missing.new.items ready.old.items ready.new.items

@@ -1,4 +1,4 @@
-//! The run of a board by which a course is made.
+//! The run of a board that makes a course.
 ghost use Rattle.std.specs.Prelude.{◌≡◌, IfOk, OnOk, false};
 ghost use Rattle.std.specs.Arc.{arc_value};
 ghost use Rattle.step_scheduler.specs.Boards.{IsComplete};
@@ -14,7 +14,7 @@ use span_tables::portfolios::Portfolio;
 use std::alloc::{AllocError, Global};
 use std::sync::Arc;
 
-// Runs a board until it is complete, one step after another. Without memory it ends at once.
+// Runs a board until it is complete, one step at a time. Ends at once if memory runs out.
 fn run(alloc: Global, board: &mut Board) -> Result<(), AllocError>
     requires live { board.old.failed ≡ false }
     requires at_rest { IsAtRest board.old.history }
@@ -26,15 +26,16 @@ fn run(alloc: Global, board: &mut Board) -> Result<(), AllocError>
             // A board that is not complete has a step that can go on, and no step is under way.
             unreachable!();
         };
-        // The board does not refuse the step that it handed out.
+        // The board does not reject the step that it handed out.
         let _kept = board.finish(evaluated(alloc, task)?);
     }
     Ok(())
 }
 
 impl Course {
-    /// A run of a set's plan, in which the lowest step that is ready always comes next: each step is the one that a board hands
-    /// out next, and is finished before the next is taken.
+    /// Makes a run of the plan of a parameter set in which the ready step with the lowest number is always next. Each
+    /// step is the one that a board hands out next, and is finished before the next step is taken. Fails if memory runs
+    /// out.
     pub fn of(alloc: Global, set: &Arc<CompiledSet>) -> Result<Course, AllocError>
         ensures { IfOk result (λ c. c.set ≡ arc_value set.now) }
     {

@@ -1,4 +1,4 @@
-//! Runs of a set's plan that are made once for a set.
+//! Courses: recorded runs of the plan of a parameter set, each made once for the set.
 ghost use Rattle.std.specs.Prelude.{◌≡◌, IfOk, length, pos, replicate};
 ghost use Rattle.std.specs.Arc.{arc_value};
 ghost use Rattle.inter_credit.specs.Credits.{unspread_state};
@@ -12,8 +12,8 @@ use std::alloc::{AllocError, Global};
 use std::marker::Model;
 use std::sync::Arc;
 
-/// A run of a set's plan in which every step is taken and finished, made for an account that holds nothing. It is a run of every
-/// account, since which step may come next does not depend on what is held.
+/// A run of the plan of a parameter set in which every step is taken and finished, made for an account that holds
+/// nothing. It is a run for every account, since which step may come next does not depend on what is held.
 #[derive(Drop)]
 pub struct Course {
     set: Arc<CompiledSet>,
@@ -38,7 +38,7 @@ impl Model for Course {
 }
 
 impl Course {
-    /// The course of these events.
+    /// Creates the course of a parameter set from its events. Fails if memory runs out.
     pub(crate) fn with_events(
         alloc: Global,
         set: Arc<CompiledSet>,
@@ -52,28 +52,28 @@ impl Course {
         Ok(Course { set, events, blank })
     }
 
-    /// The set.
+    /// Returns the parameter set.
     pub fn set(&self) -> &Arc<CompiledSet>
         ensures { arc_value result.now ≡ self.now.set }
     {
         &self.set
     }
 
-    // The commodities of an account that holds nothing, before any spread between them.
+    // Returns the commodities of an account that holds nothing, before any spread between them.
     pub(crate) fn blank(&self) -> &InterState
         ensures { result.now ≡ replicate (length self.now.set.tables.commodities) (unspread_state (pos 0) 0) }
     {
         &self.blank
     }
 
-    // A further hold on the events.
+    // Returns one more shared reference to the events.
     pub(crate) fn share_events(&self) -> Result<Arc<Vec<Event>>, AllocError>
         ensures { IfOk result (λ events. (arc_value events).items ≡ self.now.events) }
     {
         Arc::try_clone(&self.events)
     }
 
-    /// What happens to the steps, in order.
+    /// Returns the events of the run, in order.
     pub fn events(&self) -> &[Event]
         ensures events { result.now ≡ self.now.events }
         ensures run { IsRun self.now.set.plan self.now.events }

@@ -1,4 +1,4 @@
-//! The values of tasks' steps.
+//! Evaluation of tasks.
 ghost use Rattle.std.specs.Prelude.{◌≡◌, List, IfOk, IfSome, IsSome, map};
 ghost use Rattle.std.specs.Arc.{arc_value};
 ghost use Rattle.span_tables.specs.declared.portfolios.Holding.{Holding};
@@ -16,7 +16,7 @@ use plan_ir::values::Value;
 use std::alloc::{AllocError, Global};
 use std::sync::Arc;
 
-/// The value of a task's step, or the mark that there was no memory for it.
+/// Evaluates the step of a task. The result has the step's value, or no value if memory ran out.
 pub fn evaluate(alloc: Global, task: Task) -> Finished
     ensures job { result.job ≡ task.job }
     ensures step { result.step ≡ task.step }
@@ -27,7 +27,7 @@ pub fn evaluate(alloc: Global, task: Task) -> Finished
     Finished { job, value, step }
 }
 
-// The value of a task's step.
+// Evaluates the step of a task. Fails if memory runs out.
 pub(crate) fn evaluated(alloc: Global, task: Task) -> Result<Finished, AllocError>
     ensures job { IfOk result (λ finished. finished.job ≡ task.job) }
     ensures step { IfOk result (λ finished. finished.step ≡ task.step) }
@@ -42,7 +42,8 @@ pub(crate) fn evaluated(alloc: Global, task: Task) -> Result<Finished, AllocErro
     })
 }
 
-// The value of a step, from what its task is given: a further hold on one that is there already, or a new one.
+// Returns the value of a step, from what its task is given: one more shared reference to a value that exists, or a new
+// value.
 fn value_of(
     alloc: Global,
     job: &Arc<Job>,
@@ -65,8 +66,8 @@ fn value_of(
     Ok(Arc::new(alloc, value)?)
 }
 
-// The value of an operation, where it is there already: its first input, where nothing changes, or that of the set, where
-// nothing is held.
+// Returns the value of an operation if it already exists. It is the first input if the operation changes nothing, and
+// the parameter set's value for nothing held if nothing is held.
 fn existing_value<'a>(
     set: &'a CompiledSet,
     op: Op,

@@ -1,6 +1,6 @@
-//! What happens in a run.
+//! The events of a run.
 
-/// An event of a run, of the step of a number.
+/// An event of a run, with the number of its step.
 #[derive(Clone, Copy, Debug, PartialEq, Eq)]
 pub enum Event {
     /// The step was handed out.

@@ -9,8 +9,10 @@ use plan_ir::values::Value;
 use std::marker::Model;
 use std::sync::Arc;
 
-/// A step with its value, or with the mark that there was no memory for it.
-/// [`evaluate`](crate::evaluation::evaluate) makes it; so does the run of one account on one thread, with a value.
+/// A step with its value, or with the flag that memory ran out for the value.
+///
+/// [`evaluate`](crate::evaluation::evaluate) creates it. The run that makes a course also creates it, always with a
+/// value.
 #[derive(Drop)]
 pub struct Finished {
     pub(crate) job: Arc<Job>,
@@ -35,14 +37,14 @@ impl Model for Finished {
 }
 
 impl Finished {
-    /// The job.
+    /// Returns the job.
     pub fn job(&self) -> &Arc<Job>
         ensures { arc_value result.now ≡ self.now.job }
     {
         &self.job
     }
 
-    /// The step's number in the plan.
+    /// Returns the step's number in the plan.
     pub fn step(&self) -> usize
         ensures value { result ≡ self.now.step }
         ensures in_range { result < length self.now.job.set.plan }
@@ -50,14 +52,14 @@ impl Finished {
         self.step as usize
     }
 
-    /// The step's value, or `None` where there was no memory for it.
+    /// Returns the step's value, or `None` if memory ran out for it.
     pub fn value(&self) -> Option<&Value>
         ensures { MatchOption result (self.now.value ≡ None) (λ v. self.now.value ≡ Some v.now) }
     {
         self.value.as_deref()
     }
 
-    // The step and its value.
+    // Returns the step and its value.
     pub(crate) fn into_parts(self) -> (u32, Option<Arc<Value>>)
         ensures step { result.0 ≡ self.step }
         ensures value { option_map arc_value result.1 ≡ self.value }

@@ -1,4 +1,4 @@
-//! Tasks, made of the values that a board stores.
+//! Tasks, made from the values that a board stores.
 ghost use Rattle.std.specs.Prelude.{◌≡◌, ◌<◌, IfOk, IfSome, IsSome, None, length, map};
 ghost use Rattle.std.specs.Arc.{arc_value};
 ghost use Rattle.step_scheduler.specs.Jobs.{inputs_for, meaning_at};
@@ -10,7 +10,8 @@ use plan_ir::values::Value;
 use std::alloc::{AllocError, Global};
 use std::sync::Arc;
 
-// The task of a step that can be handed out, with further holds on the job and on values: what is stored stays in its slot.
+// Returns the task of a step that can be handed out. The task has shared references to the job and to the values, which
+// stay in their slots.
 pub(crate) fn task_of(
     alloc: Global,
     job: &Arc<Job>,
@@ -27,7 +28,7 @@ pub(crate) fn task_of(
     Ok(Task::new(hold, step, Given { found, inputs }))
 }
 
-// A further hold on the value in a slot, if there is one.
+// Returns one more shared reference to the value in a slot, if there is one.
 fn hold_if_stored(slot: &Option<Arc<Value>>) -> Result<Option<Arc<Value>>, AllocError>
     ensures { IfOk result (λ hold. IfSome hold (λ v. IsSome slot.now × (arc_value v ≡ value_in slot.now))) }
 {
@@ -37,7 +38,7 @@ fn hold_if_stored(slot: &Option<Arc<Value>>) -> Result<Option<Arc<Value>>, Alloc
     }
 }
 
-// Further holds on the values of these steps, in their order.
+// Returns one more shared reference to the value of each listed step, in order.
 fn holds_on(
     alloc: Global,
     slots: &[Option<Arc<Value>>],
@@ -53,7 +54,7 @@ fn holds_on(
     Ok(values)
 }
 
-// The value that is stored of a step.
+// Returns the stored value of a step.
 fn stored(slots: &[Option<Arc<Value>>], step: usize) -> &Arc<Value>
     requires { IsSome (slot_at slots.now step) }
     ensures { arc_value result.now ≡ value_at slots.now step }
@@ -64,7 +65,7 @@ fn stored(slots: &[Option<Arc<Value>>], step: usize) -> &Arc<Value>
     }
 }
 
-// The value of a step, where the values of all steps are stored.
+// Returns the value of a step, if the values of all steps are stored.
 pub(crate) fn stored_value<'a>(job: &Job, slots: &'a [Option<Arc<Value>>], step: u32) -> &'a Value
     requires values { HasAllValues job.now slots.now }
     requires in_range { step < length job.now.set.plan }

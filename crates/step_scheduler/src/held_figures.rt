@@ -1,4 +1,4 @@
-//! The figures of an account: one value for each commodity that it holds, and one for all others.
+//! The figures of an account: one element for each commodity that it holds, and one for all others.
 ghost use Rattle.std.specs.Prelude.{◌≡◌, ◌==◌, ◌<◌, ◌≤◌, ◌++◌, ◌∷◌, []};
 ghost use Rattle.std.specs.Prelude.{IfOk, OnOk, length, not, replicate, slice_index_or, slice_set};
 ghost use Rattle.plan_ir.specs.Values.{no_figures};
@@ -13,14 +13,16 @@ use std::alloc::{AllocError, Global};
 // The figures of the commodities of an account.
 #[derive(Drop)]
 pub(crate) struct HeldFigures {
-    // The figures of a commodity that is not held, and then the figures of each held commodity, by rising number.
+    // The figures of a commodity that is not held, and then the figures of each held commodity, in ascending order of
+    // number.
     figures: Vec<Figures>,
-    // The place of each commodity's figures among them: 0 if it is not held.
+    // The index of each commodity's figures in `figures`, or 0 if the commodity is not held.
     places: [u8; MAX_COMMODITIES],
 }
 
 impl HeldFigures {
-    // The figures of an account that holds nothing, with room for so many commodities.
+    // Returns the figures of an account that holds nothing, with room for the figures of `commodities` held
+    // commodities.
     pub(crate) fn with_capacity(
         alloc: Global,
         commodities: usize,
@@ -50,7 +52,7 @@ impl HeldFigures {
         Ok(())
     }
 
-    // A copy.
+    // Returns a copy. Fails if memory runs out.
     pub(crate) fn copied(&self, alloc: Global) -> Result<HeldFigures, AllocError>
         ensures figures { IfOk result (λ copy. copy.figures.items ≡ self.now.figures.items) }
         ensures places { IfOk result (λ copy. copy.places ≡ self.now.places) }
@@ -61,7 +63,7 @@ impl HeldFigures {
         })
     }
 
-    // The figures of a commodity.
+    // Returns the figures of a commodity.
     pub(crate) fn of(&self, commodity: usize) -> &Figures
         requires known { commodity < MAX_COMMODITIES }
         requires placed { place_of self.now commodity < length self.now.figures.items }
@@ -70,7 +72,7 @@ impl HeldFigures {
         &self.figures[self.places[commodity] as usize]
     }
 
-    // Whether a commodity is held.
+    // Returns whether a commodity is held.
     pub(crate) fn holds(&self, commodity: usize) -> bool
         requires { commodity < MAX_COMMODITIES }
         ensures { result ≡ not (place_of self.now commodity == 0) }

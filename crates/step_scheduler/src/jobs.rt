@@ -1,4 +1,4 @@
-//! What is to be margined.
+//! Jobs: portfolios that are to be margined.
 ghost use Rattle.std.specs.Prelude.{◌≡◌, length, true};
 ghost use Rattle.std.specs.Arc.{arc_value};
 ghost use Rattle.span_tables.specs.Holdings.{fits};
@@ -10,7 +10,7 @@ use span_tables::portfolios::Portfolio;
 use std::marker::Model;
 use std::sync::Arc;
 
-/// An account's portfolio that is to be margined under a set, and the account's place in its batch.
+/// An account's portfolio that is to be margined under a parameter set, and the account's index in its batch.
 #[derive(Drop)]
 pub struct Job {
     set: Arc<CompiledSet>,
@@ -31,7 +31,8 @@ impl Model for Job {
 }
 
 impl Job {
-    /// The job of a portfolio under a set, at a place in its batch. The portfolio fits the set's tables.
+    /// Creates the job of a portfolio under a parameter set, with an index in its batch. The portfolio has to fit the
+    /// set's tables.
     pub fn new(set: Arc<CompiledSet>, portfolio: Portfolio, place: usize) -> Job
         requires { fits (length (arc_value set).tables.contracts) portfolio.holdings ≡ true }
         ensures { result ≡ record { set = arc_value set; portfolio = portfolio; place = place } }
@@ -44,7 +45,7 @@ impl Job {
         }
     }
 
-    /// The set.
+    /// Returns the parameter set.
     pub fn set(&self) -> &Arc<CompiledSet>
         ensures set { arc_value result.now ≡ self.now.set }
         ensures fits { Fits self.now.set.tables self.now.portfolio.holdings }
@@ -52,7 +53,7 @@ impl Job {
         &self.set
     }
 
-    /// The set's plan, which keeps the plan law.
+    /// Returns the plan of the parameter set, which satisfies the plan law.
     pub fn plan(&self) -> &Plan
         ensures plan { result.now ≡ self.now.set.plan }
         ensures compiled { IsCompiled self.now.set }
@@ -61,14 +62,14 @@ impl Job {
         self.set.plan()
     }
 
-    /// The portfolio.
+    /// Returns the portfolio.
     pub fn portfolio(&self) -> &Portfolio
         ensures { result.now ≡ self.now.portfolio }
     {
         &self.portfolio
     }
 
-    /// The account's place in its batch, from 0.
+    /// Returns the account's index in its batch, from 0.
     pub fn place(&self) -> usize
         ensures { result ≡ self.now.place }
     {

@@ -1,4 +1,5 @@
-//! The laws of runs (docs/METHOD.md, "The plan of steps"), each the contract of a function with an empty body.
+//! Lemmas about runs (docs/METHOD.md, "The plan of steps"). Each lemma is the contract of a function with an empty
+//! body.
 ghost use Rattle.std.specs.Prelude.{◌≡◌, ◌<◌, ℕ, List, length, map, true};
 ghost use Rattle.plan_compiler.specs.Compiled.{Fits, IsCompiled, SetView};
 ghost use Rattle.plan_ir.specs.Plans.{StepView, inputs_at};
@@ -6,7 +7,7 @@ ghost use Rattle.step_scheduler.specs.Jobs.{JobView, inputs_for, meaning_at};
 ghost use Rattle.step_scheduler.specs.Runs.{AllFinished, CanGoOn, IsDoneOnce, IsReady, IsRun, is_finished, run_values};
 ghost use Rattle.step_scheduler.specs.declared.events.Event.{Event};
 
-/// No step meets a missing input: what a run gives to the inputs of a step that is ready is what they mean.
+/// No ready step misses an input: the values that a run gives to the inputs of a ready step are their meanings.
 #[tactic(auto, using(crate::proofs::RunValues::ready_inputs))]
 pub fn ready_steps_have_their_inputs()
     ensures { (job : JobView) → IsCompiled job.set → Fits job.set.tables job.portfolio.holdings → (history : List Event)
@@ -14,7 +15,7 @@ pub fn ready_steps_have_their_inputs()
         → map (run_values job history) (inputs_at job.set.plan k) ≡ inputs_for job k }
 {}
 
-/// The value that a run gives to a step that it finished is what the step means.
+/// The value that a run gives to a finished step is the meaning of the step.
 #[tactic(auto, using(crate::proofs::RunValues::run_means))]
 pub fn finished_steps_have_their_meanings()
     ensures { (job : JobView) → IsCompiled job.set → Fits job.set.tables job.portfolio.holdings → (history : List Event)
@@ -31,14 +32,14 @@ pub fn complete_runs_give_equal_values()
         → run_values job one k ≡ run_values job other k }
 {}
 
-/// Whatever has happened, where not every step is finished, some step can go on.
+/// After any history in which not every step is finished, some step can go on.
 #[tactic(auto, using(crate::proofs::GoesOn::some_goes_on))]
 pub fn unfinished_runs_go_on()
     ensures { (set : SetView) → IsCompiled set → (history : List Event) → (AllFinished set.plan history → ⊥)
         → (k : ℕ) × CanGoOn set.plan history k }
 {}
 
-/// In a run that finished every step, each was taken once, and after that finished once.
+/// In a run that finished every step, each step was taken once and then finished once.
 pub fn complete_runs_do_each_step_once()
     ensures { (plan : List StepView) → (history : List Event) → IsRun plan history → AllFinished plan history → (k : ℕ)
         → k < length plan → IsDoneOnce history k }

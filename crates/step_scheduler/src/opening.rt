@@ -1,4 +1,4 @@
-//! What a board finds out when it is opened.
+//! The values that are known when a board is opened.
 ghost use Rattle.std.specs.Prelude.{◌≡◌, IfOk, None, length, replicate};
 ghost use Rattle.std.specs.Arc.{arc_value};
 ghost use Rattle.plan_ir.specs.declared.values.Value.TheVariants as value;
@@ -11,7 +11,7 @@ use span_tables::held::{Held, gather_all};
 use std::alloc::{AllocError, Global};
 use std::sync::Arc;
 
-// So many empty slots.
+// Returns a list of `count` empty slots.
 fn empty(alloc: Global, count: usize) -> Result<Vec<Option<Arc<Value>>>, AllocError>
     ensures { IfOk result (λ v. v.items ≡ replicate count None) }
 {
@@ -22,7 +22,7 @@ fn empty(alloc: Global, count: usize) -> Result<Vec<Option<Arc<Value>>>, AllocEr
     Ok(slots)
 }
 
-// Held contracts as a value: that of the set, where there are none.
+// Returns held contracts as a value. If there are none, this is the parameter set's shared value for nothing held.
 fn as_value(alloc: Global, set: &CompiledSet, held: Held) -> Result<Arc<Value>, AllocError>
     ensures { IfOk result (λ v. arc_value v ≡ value.Held held) }
 {
@@ -33,8 +33,8 @@ fn as_value(alloc: Global, set: &CompiledSet, held: Held) -> Result<Arc<Value>, 
     }
 }
 
-// The slots for the values of a job's steps, with what is found at once: the contracts that are held of each commodity,
-// which are known after one pass over the holdings.
+// Returns the slots for the values of a job's steps. The held contracts of each commodity are stored already, since one
+// pass over the holdings finds them.
 pub(crate) fn found_values(alloc: Global, job: &Job) -> Result<Vec<Option<Arc<Value>>>, AllocError>
     ensures long { IfOk result (λ v. length v.items ≡ length job.now.set.plan) }
     ensures means { IfOk result (λ v. StoresMeanings job.now v.items) }

@@ -1,4 +1,5 @@
-//! The figures of all commodities of a job, its total and its option value, with no value kept for a step.
+//! The figures of all commodities of a job, its total and its option value, computed without storing the value of each
+//! step.
 ghost use Rattle.std.specs.Prelude.{◌≡◌, ◌<◌, ◌≤◌, ◌+ℤ◌, All, IfOk, List, OnOk, fold, length, nat_abs, pos, replicate};
 ghost use Rattle.std.specs.Prelude.{slice_set, true};
 ghost use Rattle.span_money.specs.declared.amounts.TheConstants.{MAX_MONEY};
@@ -33,7 +34,7 @@ use spread_stage::months::Months;
 use spread_stage::tiers::TierState;
 use std::alloc::{AllocError, Global};
 
-// Forms the spreads of a commodity in their order.
+// Forms the spreads of a commodity, in order.
 #[inline(always)]
 fn form_intras(tiers: &mut TierState, intras: &[Intra])
     requires { All IsIntra intras.now }
@@ -45,7 +46,7 @@ fn form_intras(tiers: &mut TierState, intras: &[Intra])
     }
 }
 
-// The option value of a commodity, where options have one.
+// Returns the option value of a commodity, or 0 if options have no value.
 #[inline(always)]
 fn worth_of(tables: &Tables, held: &Held) -> Money
     ensures { (facts_in tables.now).options_have_value ≡ true → result ≡ net_value_of held.now }
@@ -56,7 +57,8 @@ fn worth_of(tables: &Tables, held: &Held) -> Money
     net_value(held)
 }
 
-// What a commodity has, of the contracts that are held of it. It fills `months` and `tiers` again, whatever they have before.
+// Returns the values of a commodity from its held contracts. Refills `months` and `tiers`, whatever they contained
+// before.
 #[inline(always)]
 fn part_of(
     tables: &Tables,
@@ -89,7 +91,7 @@ fn part_of(
     })
 }
 
-// What each held commodity of a job has, by rising numbers. It replaces the parts in the memory that is passed.
+// Computes the part of each held commodity of a job, in ascending order of number. Replaces the parts in `memory`.
 pub(crate) fn find_parts(
     alloc: Global,
     tables: &Tables,
@@ -124,7 +126,7 @@ fn load_part(states: &mut InterState, part: &Part)
     states.load(part.commodity, part.net, part.scan.price2);
 }
 
-// The commodities before any spread between them.
+// Returns the commodities before any spread between them.
 pub(crate) fn loaded(
     alloc: Global,
     tables: &Tables,
@@ -147,7 +149,7 @@ pub(crate) fn loaded(
     Ok(states)
 }
 
-// Forms the spreads between commodities in their order.
+// Forms the spreads between commodities, in order.
 pub(crate) fn form_inters(states: &mut InterState, inters: &[Inter])
     requires { All (IsInter (length states.old)) inters.now }
     ensures { states.new ≡ fold inter_both_ways states.old inters.now }
@@ -157,7 +159,7 @@ pub(crate) fn form_inters(states: &mut InterState, inters: &[Inter])
     }
 }
 
-// The figures of a held commodity, from its part and the commodities after all spreads between them.
+// Returns the figures of a held commodity, from its part and the commodities after all spreads between them.
 fn figures_with(part: &Part, states: &InterState) -> Figures
     requires { HasState states.now part.now }
     ensures { result ≡ figures_of_part part.now states.now }
@@ -172,7 +174,8 @@ fn figures_with(part: &Part, states: &InterState) -> Figures
     )
 }
 
-// The figures of all commodities, from the parts of those that are held and the commodities after all spreads between them.
+// Returns the figures of all commodities, from the parts of the held ones and the commodities after all spreads between
+// them.
 pub(crate) fn figures_of_all(
     alloc: Global,
     tables: &Tables,
@@ -194,7 +197,7 @@ pub(crate) fn figures_of_all(
     Ok(held)
 }
 
-// The sum of two amounts of money.
+// Returns the sum of two amounts of money.
 fn sum(one: Money, other: Money) -> Money
     requires { nat_abs (one +ℤ other) ≤ MAX_MONEY }
     ensures { result ≡ one +ℤ other }
@@ -202,7 +205,7 @@ fn sum(one: Money, other: Money) -> Money
     Money::new(one.get() + other.get())
 }
 
-// The sum of the requirements of all commodities. A commodity that is not held requires nothing.
+// Returns the sum of the requirements of all commodities. A commodity that is not held requires nothing.
 pub(crate) fn total_of(
     tables: &Tables,
     portfolio: &Portfolio,
@@ -223,7 +226,7 @@ pub(crate) fn total_of(
     total
 }
 
-// The option value of the account, which is 0 under a profile in which options have none.
+// Returns the option value of the account, which is 0 under a profile in which options have none.
 pub(crate) fn value_of_all(tables: &Tables, portfolio: &Portfolio, parts: &[Part]) -> Money
     requires fits { fits (length tables.now.contracts) portfolio.now.holdings ≡ true }
     requires parts { ArePartsFrom tables.now portfolio.now.holdings 0 parts.now }

@@ -1,19 +1,19 @@
-//! How far the steps of a board are.
+//! The progress of the steps of a board.
 ghost use Rattle.std.specs.Prelude.{◌≡◌, ◌<◌, ◌↔◌, ℕ, IsTrue, length, sum_by, true, false};
 ghost use Rattle.step_scheduler.specs.near.Steps.{was_taken, is_done, events_of, progress_at};
 
-/// How far a step is.
+/// The progress of a step.
 #[derive(Clone, Copy, PartialEq, Eq, Debug)]
 pub enum Progress {
     /// The step was not handed out.
     Waiting,
-    /// The step was handed out, and has no value.
+    /// The step was handed out and has no value.
     Taken,
-    /// The step has had its value.
+    /// The step got its value.
     Done,
 }
 
-// Whether the step of a number was taken and has had no value.
+// Returns whether a step was handed out and has no value.
 pub(crate) fn is_under_way(steps: &[Progress], step: usize) -> bool
     requires { step < length steps.now }
     ensures { IsTrue result ↔ ((was_taken (progress_at steps.now step) ≡ true)
@@ -22,7 +22,7 @@ pub(crate) fn is_under_way(steps: &[Progress], step: usize) -> bool
     matches!(steps[step], Progress::Taken)
 }
 
-// Whether all steps have had their values, of which so many events are known: each step has two in all.
+// Returns whether all steps got their values, from the number of their events so far: each step has two in all.
 pub(crate) fn all_done(steps: &[Progress], events: usize) -> bool
     requires { sum_by events_of steps.now ≡ events }
     ensures { IsTrue result ↔ ((k : ℕ) → k < length steps.now → is_done (progress_at steps.now k) ≡ true) }

@@ -19,10 +19,11 @@ use std::alloc::{AllocError, Global};
 use std::marker::Model;
 use std::sync::Arc;
 
-/// What a complete run gave for an account: its figures in each commodity of the set, its total and its option value.
+/// The results of a complete run for an account: its figures in each commodity of the parameter set, its total and its
+/// option value.
 ///
-/// A row carries its set and its portfolio, and contracts see these two: the figures, the total and the option value are
-/// those that the method defines for them. Only a complete board gives a row.
+/// Contracts see the parameter set and the portfolio of a row. The figures, the total and the option value are the ones
+/// that the method defines for them. Only a complete board gives a row.
 #[derive(Drop)]
 pub struct Row {
     job: Arc<Job>,
@@ -43,7 +44,7 @@ impl Model for Row {
 }
 
 impl Row {
-    /// The row of a complete board.
+    /// Returns the row of a complete board. Fails if memory runs out.
     pub fn of(alloc: Global, board: &Board) -> Result<Arc<Row>, AllocError>
         requires { IsComplete board.now }
         ensures { IfOk result (λ row. arc_value row ≡ row_of board.now.job) }
@@ -53,7 +54,7 @@ impl Row {
         Row::of_job(alloc, job, figures, Totals::of(board))
     }
 
-    /// The row of a complete board that is used up: its figures are handed over.
+    /// Consumes a complete board, and returns its row. Fails if memory runs out.
     pub fn from_board(alloc: Global, board: Board) -> Result<Arc<Row>, AllocError>
         requires { IsComplete board }
         ensures { IfOk result (λ row. arc_value row ≡ row_of board.job) }
@@ -64,7 +65,7 @@ impl Row {
         Row::of_job(alloc, job, figures, totals)
     }
 
-    // The row of a job with these figures and totals.
+    // Returns the row of a job with its figures and totals.
     fn of_job(
         alloc: Global,
         job: Arc<Job>,
@@ -83,42 +84,42 @@ impl Row {
         Ok(Arc::new(alloc, row)?)
     }
 
-    /// The set under which the account was margined.
+    /// Returns the parameter set under which the account was margined.
     pub fn set(&self) -> &Arc<CompiledSet>
         ensures { arc_value result.now ≡ self.now.set }
     {
         self.job.set()
     }
 
-    /// What the account holds.
+    /// Returns the portfolio of the account.
     pub fn portfolio(&self) -> &Portfolio
         ensures { result.now ≡ self.now.portfolio }
     {
         self.job.portfolio()
     }
 
-    /// The account's name.
+    /// Returns the account's name.
     pub fn account(&self) -> &Name
         ensures { result.now ≡ self.now.portfolio.account }
     {
         self.portfolio().account()
     }
 
-    /// The id of the set.
+    /// Returns the id of the parameter set.
     pub fn set_id(&self) -> &Name
         ensures { result.now ≡ self.now.set.tables.set_id }
     {
         self.job.set().tables().set_id()
     }
 
-    /// The profile of the set.
+    /// Returns the profile of the parameter set.
     pub fn profile(&self) -> u8
         ensures { result ≡ self.now.set.tables.profile }
     {
         self.job.set().tables().profile()
     }
 
-    /// The figures of the commodity of a number.
+    /// Returns the figures of a commodity by its number.
     pub fn figures(&self, commodity: usize) -> &Figures
         requires { commodity < length self.now.set.tables.commodities }
         ensures { result.now ≡ figures_of self.now.set.tables self.now.portfolio.holdings commodity }
@@ -126,7 +127,7 @@ impl Row {
         self.figures.of(commodity)
     }
 
-    /// Whether the account holds a contract of the commodity of a number.
+    /// Returns whether the account holds a contract of a commodity, by the commodity's number.
     pub fn held(&self, commodity: usize) -> bool
         requires { commodity < length self.now.set.tables.commodities }
         ensures { result ≡ is_commodity_held self.now.set.tables self.now.portfolio.holdings commodity }
@@ -134,14 +135,14 @@ impl Row {
         self.figures.holds(commodity)
     }
 
-    /// The sum of the requirements of all commodities, in minor units.
+    /// Returns the sum of the requirements of all commodities, in minor units.
     pub fn total(&self) -> Money
         ensures { result ≡ total_to self.now.set.tables self.now.portfolio.holdings (length self.now.set.tables.commodities) }
     {
         self.totals.total
     }
 
-    /// The account's option value, in minor units: 0 under a profile in which options have none.
+    /// Returns the account's option value, in minor units. It is 0 under a profile in which options have none.
     pub fn value(&self) -> Money
         ensures { result ≡ option_value_of self.now.set.tables self.now.portfolio.holdings }
     {
@@ -157,7 +158,7 @@ struct Totals {
 }
 
 impl Totals {
-    // The totals of a complete board.
+    // Returns the totals of a complete board.
     fn of(board: &Board) -> Totals
         requires { IsComplete board.now }
         ensures { AreTotals board.now.job.set.tables board.now.job.portfolio.holdings result }

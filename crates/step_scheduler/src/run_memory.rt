@@ -1,4 +1,4 @@
-//! The memory that whole runs work in.
+//! The working memory of whole runs.
 use scan_risk::Scan;
 use span_money::amounts::{Money, Units};
 use span_tables::held::HeldMemory;
@@ -6,8 +6,8 @@ use spread_stage::months::Months;
 use spread_stage::tiers::TierState;
 use std::alloc::Global;
 
-// What a held commodity has before any spread between commodities: its number, its scan, its net delta, the exact sum of its
-// spreads times their rates in 10^-4 minor units, its amounts, and its option value where options have one.
+// The values of a held commodity before any spread between commodities: its number, its scan, its net delta, the exact
+// sum of its spreads times their rates in 10^-4 minor units, its amounts, and its option value if options have one.
 #[derive(Clone, Copy)]
 pub(crate) struct Part {
     pub(crate) commodity: usize,
@@ -19,8 +19,8 @@ pub(crate) struct Part {
     pub(crate) worth: Money,
 }
 
-/// The memory that a whole run works in. Each run replaces what the run before it left there, so one value serves the accounts of a
-/// batch one after another, and a run takes less memory of its own.
+/// The working memory of a whole run. Each run replaces what the run before it left there. One value therefore serves
+/// the accounts of a batch one after another, and a run allocates less memory of its own.
 #[derive(Drop)]
 pub struct RunMemory {
     pub(crate) held: HeldMemory,
@@ -30,7 +30,7 @@ pub struct RunMemory {
 }
 
 impl RunMemory {
-    /// Memory that no run has used yet. It takes nothing from the allocator.
+    /// Creates memory that no run has used yet. It allocates nothing.
     pub fn new(alloc: Global) -> RunMemory {
         RunMemory {
             held: HeldMemory::new(alloc),

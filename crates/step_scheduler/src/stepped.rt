@@ -1,4 +1,4 @@
-//! What a board has that hands its steps out one by one.
+//! The state of a board that hands out its steps one by one.
 ghost use Rattle.std.specs.Prelude.{◌≡◌, ◌<◌, IfOk, length};
 ghost use Rattle.plan_ir.specs.Figures.{figures_of, option_value_of, total_to};
 ghost use Rattle.step_scheduler.specs.near.Figures.{AreHeldFigures};
@@ -16,7 +16,8 @@ use span_tables::held::held_commodities;
 use std::alloc::{AllocError, Global};
 use std::sync::Arc;
 
-// How far the steps of a job are, how many inputs each misses, which are ready, the values that are stored, and what happened.
+// The progress of the steps of a job, how many inputs each step misses, the ready steps, the stored values, and the
+// history.
 #[derive(Drop)]
 pub(crate) struct Stepped {
     pub(crate) steps: Vec<Progress>,
@@ -27,7 +28,7 @@ pub(crate) struct Stepped {
 }
 
 impl Stepped {
-    // The figures of the commodity of a number, where every step has its value.
+    // Returns the figures of a commodity by its number. Every step has its value.
     pub(crate) fn figures(&self, job: &Job, commodity: usize) -> Figures
         requires values { HasAllValues job.now self.now.slots.items }
         requires in_range { commodity < length job.now.set.tables.commodities }
@@ -40,7 +41,7 @@ impl Stepped {
         *value.figures()
     }
 
-    // The total, where every step has its value.
+    // Returns the total. Every step has its value.
     pub(crate) fn total(&self, job: &Job) -> Money
         requires { HasAllValues job.now self.now.slots.items }
         ensures { result ≡ total_to job.now.set.tables job.now.portfolio.holdings (length job.now.set.tables.commodities) }
@@ -50,7 +51,7 @@ impl Stepped {
         value.total()
     }
 
-    // The option value, where every step has its value: 0 under a profile in which options have none.
+    // Returns the option value, which is 0 under a profile in which options have none. Every step has its value.
     pub(crate) fn value(&self, job: &Job) -> Money
         requires { HasAllValues job.now self.now.slots.items }
         ensures { result ≡ option_value_of job.now.set.tables job.now.portfolio.holdings }
@@ -62,7 +63,7 @@ impl Stepped {
         value.premium()
     }
 
-    // The figures of all commodities, if every step has its value.
+    // Returns the figures of all commodities. Every step has its value.
     pub(crate) fn held_figures(&self, alloc: Global, job: &Job) -> Result<HeldFigures, AllocError>
         requires { HasAllValues job.now self.now.slots.items }
         ensures { IfOk result (λ held. AreHeldFigures job.now.set.tables job.now.portfolio.holdings held) }

@@ -1,4 +1,4 @@
-//! Steps that were handed out.
+//! Tasks: steps that were handed out.
 ghost use Rattle.std.specs.Prelude.{◌≡◌, ◌<◌, length};
 ghost use Rattle.std.specs.Arc.{arc_value};
 ghost use Rattle.step_scheduler.specs.near.Tasks.{IsTaskWith, task_with};
@@ -8,15 +8,15 @@ use plan_ir::values::Value;
 use std::marker::Model;
 use std::sync::Arc;
 
-// What a step is evaluated from: its own value, where that was found when the board was opened, and the values of its inputs
-// in their order.
+// What a step is evaluated from: its own value, if it was found when the board was opened, and the values of its inputs
+// in order.
 #[derive(Drop)]
 pub(crate) struct Given {
     pub(crate) found: Option<Arc<Value>>,
     pub(crate) inputs: Vec<Arc<Value>>,
 }
 
-/// A step that is to be evaluated, with the values of its inputs. Only a board hands it out.
+/// A step that is to be evaluated, with the values of its inputs. Only a board hands out tasks.
 #[derive(Drop)]
 pub struct Task {
     pub(crate) job: Arc<Job>,
@@ -37,7 +37,7 @@ impl Model for Task {
 }
 
 impl Task {
-    // The task of a step, with what it is given.
+    // Creates the task of a step from what the step is given.
     pub(crate) fn new(job: Arc<Job>, step: u32, given: Given) -> Task
         requires { IsTaskWith (arc_value job) step given }
         ensures { result ≡ task_with (arc_value job) step given }
@@ -45,14 +45,14 @@ impl Task {
         Task { job, given, step }
     }
 
-    /// The job.
+    /// Returns the job.
     pub fn job(&self) -> &Arc<Job>
         ensures { arc_value result.now ≡ self.now.job }
     {
         &self.job
     }
 
-    /// The step's number in the plan.
+    /// Returns the step's number in the plan.
     pub fn step(&self) -> usize
         ensures value { result ≡ self.now.step }
         ensures in_range { result < length self.now.job.set.plan }

@@ -1,12 +1,13 @@
-//! What a whole run passes before each evaluation.
+//! Watches: trace hooks of whole runs.
 use crate::events::Event;
 
-/// Passed before each evaluation of a whole run, with the step's number in the plan.
+/// A trace hook that a whole run calls for each step, before the first step is evaluated, with the step's number in the
+/// plan.
 pub trait Watch {
     fn pass(&self, step: usize);
 }
 
-/// A watch that lets everything pass.
+/// A watch that does nothing.
 #[derive(Clone, Copy, Debug, Default)]
 pub struct NoWatch;
 
@@ -15,7 +16,7 @@ impl Watch for NoWatch {
     fn pass(&self, _step: usize) {}
 }
 
-// Passes the watch for each step that these events take, in their order.
+// Calls the watch for each step that the events take, in order.
 #[inline(always)]
 pub(crate) fn pass_steps<W: Watch>(events: &[Event], watch: &W) {
     for event in events {

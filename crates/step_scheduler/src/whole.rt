@@ -1,4 +1,4 @@
-//! Whole runs: every step of a job's plan in one call.
+//! Whole runs, which execute every step of a job's plan in one call.
 ghost use Rattle.std.specs.Prelude.{◌≡◌, IfOk};
 ghost use Rattle.std.specs.Arc.{arc_value};
 ghost use Rattle.step_scheduler.specs.near.Whole.{HasResults};
@@ -13,8 +13,8 @@ use span_money::amounts::Money;
 use std::alloc::{AllocError, Global};
 use std::sync::Arc;
 
-// What a whole run gives: the events of its course, which are shared with it, the figures of all commodities, the total and the
-// option value, in minor units. No other value is stored.
+// The results of a whole run: the events of its course, which it shares, the figures of all commodities, the total and
+// the option value, in minor units. No other value is stored.
 #[derive(Drop)]
 pub(crate) struct Whole {
     pub(crate) events: Arc<Vec<Event>>,
@@ -24,7 +24,7 @@ pub(crate) struct Whole {
 }
 
 impl Whole {
-    // What a run of a job gives in the order of its set's course.
+    // Runs a job in the order of the course of its parameter set. Fails if memory runs out.
     pub(crate) fn new(
         alloc: Global,
         job: &Job,

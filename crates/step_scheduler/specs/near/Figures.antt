@@ -1,4 +1,4 @@
--- The figures that a complete board gives.
+-- The figures that a complete board returns.
 use Rattle.std.specs.Prelude.{◌≡◌, ◌==◌, ℕ, ◌+◌, ◌<◌, ◌≤◌, List, length, not, slice_index_or}
 use Rattle.span_tables.specs.Tables.{AcceptedTables}
 use Rattle.span_tables.specs.declared.limits.TheConstants.{MAX_COMMODITIES}
@@ -8,21 +8,21 @@ use Rattle.plan_ir.specs.Values.{no_figures}
 use Rattle.plan_ir.specs.declared.figures.Figures.{Figures}
 use Rattle.step_scheduler.specs.declared.held_figures.HeldFigures.{HeldFigures}
 
--- the figures of the first commodities, as many as there are figures
+-- the list contains the figures of the first commodities, in order
 abbrev pub AreFirstFigures : AcceptedTables → List Holding → List Figures → Type 0
 AreFirstFigures t holdings figures =
     (c : ℕ) → c < length figures → (d : Figures) → slice_index_or figures c d ≡ figures_of t holdings c
 
--- the figures of all commodities
+-- the list contains the figures of all commodities
 pub record AreAllFigures (t : AcceptedTables) (holdings : List Holding) (figures : List Figures) : Type 0 where
   pub every : length figures ≡ length t.commodities
   pub each : AreFirstFigures t holdings figures
 
--- the place of the figures of a commodity
+-- the index of a commodity's figures
 abbrev pub place_of : HeldFigures → ℕ → ℕ
 place_of held c = slice_index_or held.places c 0
 
--- a commodity has its figures, and place 0 exactly if it is not held
+-- a commodity has its figures, and has index 0 exactly if it is not held
 pub record HasFigures (t : AcceptedTables) (holdings : List Holding) (held : HeldFigures) (c : ℕ) : Type 0 where
   pub placed : place_of held c < length held.figures.items
   pub right : (d : Figures) → slice_index_or held.figures.items (place_of held c) d ≡ figures_of t holdings c
@@ -33,7 +33,7 @@ pub record AreHeldFigures (t : AcceptedTables) (holdings : List Holding) (held :
   pub few : length t.commodities ≤ MAX_COMMODITIES
   pub each : (c : ℕ) → c < length t.commodities → HasFigures t holdings held c
 
--- the first commodities have their figures, and the others still place 0, where the figures of nothing held are
+-- the first n commodities have their figures, and the others have index 0, where the figures of nothing held are
 pub record AreFilled (t : AcceptedTables) (holdings : List Holding) (n : ℕ) (held : HeldFigures) : Type 0 where
   pub some : 0 < length held.figures.items
   pub few : length held.figures.items ≤ n + 1

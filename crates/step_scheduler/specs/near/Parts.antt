@@ -1,4 +1,4 @@
--- What a whole run has of the commodities that are held, and what it gives.
+-- The values of held commodities in a whole run, and the figures from them.
 use Rattle.std.specs.Prelude.{◌≡◌, ℕ, ◌+◌, ◌*◌, ◌<◌, ◌≤◌, true, List, [], ◌∷◌, length, nat_abs, pos}
 use Rattle.span_tables.specs.Tables.{AcceptedTables, facts_in}
 use Rattle.span_tables.specs.declared.held.CommodityHeld.{CommodityHeld}
@@ -13,29 +13,30 @@ use Rattle.plan_ir.specs.Figures.{tiers_at}
 use Rattle.plan_ir.specs.declared.figures.Figures.{Figures}
 use Rattle.step_scheduler.specs.declared.run_memory.Part.{Part}
 
--- nothing is held of the commodities from one number up to another
+-- no commodity from number `from` to before number `to` is held
 abbrev pub NoneHeld : AcceptedTables → List Holding → ℕ → ℕ → Type 0
 NoneHeld t holdings from to = (c : ℕ) → from ≤ c → c < to → held_at t holdings c ≡ []
 
--- the commodity of this number is the first held one from a number on
+-- commodity c is the first held one from number `from` on
 pub record IsNext (t : AcceptedTables) (holdings : List Holding) (from c : ℕ) : Type 0 where
   pub known : c < length t.commodities
   pub behind : from ≤ c
   pub none : NoneHeld t holdings from c
   pub held : is_commodity_held t holdings c ≡ true
 
--- nothing is held from a number on
+-- no commodity from number `from` on is held
 pub record IsEnd (t : AcceptedTables) (holdings : List Holding) (from : ℕ) : Type 0 where
   pub behind : from ≤ length t.commodities
   pub none : NoneHeld t holdings from (length t.commodities)
 
--- what is held of the commodities from a number on, by rising numbers
+-- the held contracts of the held commodities from number `from` on, in ascending order
 abbrev pub AreHeldFrom : AcceptedTables → List Holding → ℕ → List CommodityHeld → Type 0
 AreHeldFrom t holdings from [] = IsEnd t holdings from
 AreHeldFrom t holdings from (h ∷ hs) =
     IsNext t holdings from h.commodity × (h.held ≡ held_at t holdings h.commodity) × AreHeldFrom t holdings (h.commodity + 1) hs
 
--- what its commodity has before any spread between commodities; the option value, where options have one
+-- the part has the values of its commodity before any spread between commodities, and its option value if options have
+-- one
 pub record IsPart (t : AcceptedTables) (holdings : List Holding) (p : Part) : Type 0 where
   pub scan : p.scan ≡ scan_at t holdings p.commodity
   pub net : p.net ≡ net_delta (deltas_at t holdings p.commodity)
@@ -44,13 +45,13 @@ pub record IsPart (t : AcceptedTables) (holdings : List Holding) (p : Part) : Ty
   pub minimum : p.minimum ≡ pos (minimum_at t holdings p.commodity)
   pub worth : (facts_in t).options_have_value ≡ true → p.worth ≡ net_value_at t holdings p.commodity
 
--- what the held commodities from a number on have, by rising numbers
+-- the parts of the held commodities from number `from` on, in ascending order
 abbrev pub ArePartsFrom : AcceptedTables → List Holding → ℕ → List Part → Type 0
 ArePartsFrom t holdings from [] = IsEnd t holdings from
 ArePartsFrom t holdings from (p ∷ ps) =
     IsNext t holdings from p.commodity × IsPart t holdings p × ArePartsFrom t holdings (p.commodity + 1) ps
 
--- what the part has is within its limits
+-- the values of the part are within their limits
 pub record IsSmall (p : Part) : Type 0 where
   pub risk : nat_abs (p.scan).risk ≤ MAX_PART
   pub charge : p.charge ≤ MAX_RATE * MAX_UNITS
@@ -64,12 +65,12 @@ pub record HasState (states : List CommodityState) (p : Part) : Type 0 where
   pub known : p.commodity < length states
   pub small : IsSmall p
 
--- nothing was loaded of the part's commodity, and no spread was formed
+-- the part's commodity was not loaded, and no spread was formed
 pub record CanBeLoaded (states : List CommodityState) (p : Part) : Type 0 where
   pub state : HasState states p
   pub not_loaded : IsNotLoaded states p.commodity
   pub unspread : IsUnspread states
 
--- the figures of a part, with the commodities after all spreads between them
+-- the figures from a part and the commodities after all spreads between them
 abbrev pub figures_of_part : Part → List CommodityState → Figures
 figures_of_part p states = figures_from p.scan p.charge p.delivery p.minimum states p.commodity

@@ -1,4 +1,4 @@
--- What a row keeps.
+-- The invariant of a row.
 use Rattle.std.specs.Prelude.{◌≡◌, List, length}
 use Rattle.span_tables.specs.Tables.{AcceptedTables}
 use Rattle.span_tables.specs.declared.portfolios.Holding.{Holding}
@@ -13,7 +13,7 @@ pub record AreTotals (t : AcceptedTables) (holdings : List Holding) (totals : To
   pub total : totals.total ≡ total_to t holdings (length t.commodities)
   pub option_value : totals.option_value ≡ option_value_of t holdings
 
--- the figures and the totals of the job's set and portfolio
+-- the figures and the totals of the job's portfolio under its parameter set
 pub record IsRow (job : JobView) (figures : HeldFigures) (totals : Totals) : Type 0 where
   pub figures_are : AreHeldFigures job.set.tables (job.portfolio).holdings figures
   pub totals_are : AreTotals job.set.tables (job.portfolio).holdings totals

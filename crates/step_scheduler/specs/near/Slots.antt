@@ -24,25 +24,25 @@ value_in (Some v) = arc_value v
 abbrev pub slot_at : List Slot → ℕ → Slot
 slot_at slots k = slice_index_or slots k None
 
--- the value that is stored of step k
+-- the stored value of step k
 abbrev pub value_at : List Slot → ℕ → Value
 value_at slots k = value_in (slot_at slots k)
 
--- the values of these steps are stored
+-- the values of the listed steps are stored
 abbrev pub AreStored : List Slot → List ℕ → Type 0
 AreStored slots steps = All (λ k. IsSome (slot_at slots k)) steps
 
--- the values that are stored are the meanings of their steps
+-- each stored value is the meaning of its step
 abbrev pub StoresMeanings : JobView → List Slot → Type 0
 StoresMeanings job slots = (k : ℕ) → IsSome (slot_at slots k) → value_at slots k ≡ meaning_at job k
 
--- a stored value is its step's meaning, and the value of a step that is done is stored
+-- each stored value is the meaning of its step, and the value of each step that is done is stored
 pub record AreRight (job : JobView) (steps : List Progress) (slots : List Slot) : Type 0 where
   pub long : length slots ≡ length job.set.plan
   pub means : StoresMeanings job slots
   pub here : (k : ℕ) → is_done (progress_at steps k) ≡ true → IsSome (slot_at slots k)
 
--- step k is one of the plan, and the values of its inputs are stored
+-- step k is in the plan, and the values of its inputs are stored
 pub record CanBeGiven (job : JobView) (slots : List Slot) (k : ℕ) : Type 0 where
   pub in_range : k < length job.set.plan
   pub long : length slots ≡ length job.set.plan

@@ -1,4 +1,4 @@
--- What a board has that hands its steps out one by one.
+-- The invariant of a board that hands out its steps one by one.
 use Rattle.std.specs.Prelude.{◌≡◌, ℕ, ◌*◌, ◌≤◌, List, length, sum_by}
 use Rattle.plan_compiler.specs.Compiled.{Fits, IsCompiled}
 use Rattle.step_scheduler.specs.Jobs.{JobView}
@@ -9,7 +9,7 @@ use Rattle.step_scheduler.specs.near.Steps.{was_taken, is_done, events_of, progr
 use Rattle.step_scheduler.specs.near.Counts.{CountsSteps}
 use Rattle.step_scheduler.specs.near.Slots.{AreRight, Slot}
 
--- the steps are those of the history; there is room for the events to come
+-- the steps agree with the history, which is a run with room for all events to come
 pub record IsRunBoard (job : JobView) (steps : List Progress) (history : List Event) (capacity : ℕ) : Type 0 where
   pub compiled : IsCompiled job.set
   pub fits : Fits job.set.tables (job.portfolio).holdings
@@ -20,7 +20,7 @@ pub record IsRunBoard (job : JobView) (steps : List Progress) (history : List Ev
   pub count : sum_by events_of steps ≡ length history
   pub room : 2 * length steps ≤ capacity
 
--- a board with its stored values, its counters of missing inputs and its list of ready steps
+-- the run, the stored values, the counters of missing inputs and the list of ready steps are correct
 pub record IsStepped (job : JobView) (steps : List Progress) (slots : List Slot) (history : List Event)
     (capacity : ℕ) (missing ready : List ℕ) (ready_capacity : ℕ) : Type 0 where
   pub board : IsRunBoard job steps history capacity

@@ -1,4 +1,4 @@
--- How far the steps of a board are.
+-- The progress of the steps of a board.
 use Rattle.std.specs.Prelude.{◌≡◌, ℕ, ◌<◌, Bool, true, false, List, length, All, slice_index_or}
 use Rattle.plan_ir.specs.Plans.{StepView, inputs_at}
 use Rattle.step_scheduler.specs.declared.progress.Progress.{Progress}
@@ -10,23 +10,23 @@ was_taken Waiting = false
 was_taken Taken = true
 was_taken Done = true
 
--- the step has had its value
+-- the step got its value
 abbrev pub is_done : Progress → Bool
 is_done Waiting = false
 is_done Taken = false
 is_done Done = true
 
--- how many events the step has had
+-- the number of events of the step so far
 abbrev pub events_of : Progress → ℕ
 events_of Waiting = 0
 events_of Taken = 1
 events_of Done = 2
 
--- how far step k is
+-- the progress of step k
 abbrev pub progress_at : List Progress → ℕ → Progress
 progress_at steps k = slice_index_or steps k Waiting
 
--- each of the inputs has had its value
+-- each of the inputs got its value
 abbrev pub AreDone : List Progress → List ℕ → Type 0
 AreDone steps inputs = All (λ i. is_done (progress_at steps i) ≡ true) inputs
 

@@ -1,4 +1,4 @@
--- What runs keep in which every step is taken and finished.
+-- Invariants of runs in which every step is taken and finished.
 use Rattle.std.specs.Arc.{arc_value}
 use Rattle.std.specs.Prelude.{◌≡◌, ℕ, List, length}
 use Rattle.plan_ir.specs.Figures.{option_value_of, total_to}
@@ -9,11 +9,11 @@ use Rattle.step_scheduler.specs.declared.events.Event.{Event}
 use Rattle.step_scheduler.specs.declared.whole.Whole.{Whole}
 use Rattle.step_scheduler.specs.near.Figures.{AreHeldFigures}
 
--- no step is under way: those that were taken are those that are finished
+-- no step is under way: each step that was taken is finished
 abbrev pub IsAtRest : List Event → Type 0
 IsAtRest history = (k : ℕ) → is_taken history k ≡ is_finished history k
 
--- a run of the set's plan in which every step is finished
+-- a run of the plan of the parameter set in which every step is finished
 pub record IsCourse (set : SetView) (events : List Event) : Type 0 where
   pub run : IsRun set.plan events
   pub all : AllFinished set.plan events
@@ -24,7 +24,7 @@ pub record HasResults (job : JobView) (whole : Whole) : Type 0 where
   pub total_is : whole.total ≡ total_to job.set.tables (job.portfolio).holdings (length job.set.tables.commodities)
   pub value_is : whole.value ≡ option_value_of job.set.tables (job.portfolio).holdings
 
--- a job's run, with what it gives
+-- a run of the job in which every step is finished, with the results of the job
 pub record IsWhole (job : JobView) (whole : Whole) : Type 0 where
   pub compiled : IsCompiled job.set
   pub fits : Fits job.set.tables (job.portfolio).holdings

@@ -3,7 +3,7 @@ use Rattle.step_scheduler.proofs.AtRest.{after_step, fewer_untaken, still_at_res
 use Rattle.step_scheduler.proofs.course_runs.run.Goals as goal
 use Rattle.step_scheduler.proofs.course_runs.run.Goals.{After-finish-kept}
 
--- the board after a turn: one step more was taken and finished
+-- the board after a pass of the loop: one more step was taken and finished
 after_turn : (c : After-finish-kept)
     → c.finish-kept.new.self ≡ record c.loop-alloc.board { history = with_step c.loop-alloc.board.history c.in-Some.task.step }
 after_turn c =

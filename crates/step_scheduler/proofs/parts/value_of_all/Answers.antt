@@ -9,7 +9,7 @@ use Rattle.step_scheduler.proofs.HeldLemmas.{next_part, no_part}
 use Rattle.step_scheduler.proofs.PassedOver.{value_with, values_over}
 use Rattle.step_scheduler.proofs.parts.value_of_all.Goals as goal
 
--- options have a value where the facts that the tables gave say so
+-- options have a value if the facts of the tables say so
 valued : (t : AcceptedTables) (facts : ProfileFacts) → facts ≡ facts_in t → not facts.options_have_value ≡ false
     → (facts_in t).options_have_value ≡ true
 valued t facts is have = ap (λ (f : ProfileFacts). f.options_have_value) (sym is) ∙ not-false facts.options_have_value have
