@@ -1,4 +1,4 @@
--- Definitions on which no top-level guarantee depends: forms close to the code, type invariants, samples.
+-- Definitions on which no top-level guarantee depends: forms close to the code, type invariants and samples.
 pub mod CommodityStates
 pub mod Open
 pub mod Rooms

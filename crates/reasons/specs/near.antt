@@ -1,3 +1,3 @@
--- Implementation-level forms, type invariants and samples, which no top-level guarantee uses.
+-- Definitions on which no top-level guarantee depends: forms close to the code, type invariants and samples.
 pub mod Fields
 pub mod Stages

@@ -1,3 +1,3 @@
--- Definitions that no top-level guarantee uses: implementation-level forms, type invariants and samples.
+-- Definitions on which no top-level guarantee depends: forms close to the code, type invariants and samples.
 pub mod Batches
 pub mod Samples

@@ -1,4 +1,4 @@
--- What no promise's words stand on: forms near to the code, what types keep, samples.
+-- Definitions on which no top-level guarantee depends: forms close to the code, type invariants and samples.
 pub mod Memory
 pub mod NextWords
 pub mod OnLiterals

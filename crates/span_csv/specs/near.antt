@@ -1,5 +1,4 @@
--- Implementation-level specs: definitions close to the code, type invariants and samples. No top-level guarantee
--- depends on them.
+-- Definitions on which no top-level guarantee depends: forms close to the code, type invariants and samples.
 pub mod Checks
 pub mod Grammar
 pub mod OnLiterals

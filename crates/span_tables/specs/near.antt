@@ -1,4 +1,4 @@
--- Definitions on which no top-level guarantee depends: forms close to the code, type invariants, samples.
+-- Definitions on which no top-level guarantee depends: forms close to the code, type invariants and samples.
 pub mod ByKind
 pub mod Gathered
 pub mod HeldCommodities

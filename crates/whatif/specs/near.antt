@@ -1,4 +1,4 @@
--- Implementation-level forms, which no top-level guarantee uses.
+-- Definitions on which no top-level guarantee depends: forms close to the code, type invariants and samples.
 pub mod Befores
 pub mod Numbers
 pub mod OnLiterals

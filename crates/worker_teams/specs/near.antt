@@ -1,2 +1,2 @@
--- Implementation-level forms, which no top-level guarantee uses.
+-- Definitions on which no top-level guarantee depends: forms close to the code, type invariants and samples.
 pub mod OutcomeRows
