@@ -41,16 +41,32 @@ use writers::marked_writer::MarkedWriter;
 const VERSION: &str = "1.3.0 (profile 1 and profile 2)";
 
 const SPAN_MORE: &str = "\
-docs/FORMATS.md describes the files, what is printed, faults and statuses.
-docs/METHOD.md describes the method and the units.";
+Common options:
+      --workers <N>     Worker threads, 1 to 16 (margin, whatif, session, roll)
+      --account <NAME>  Explain only this account (explain)
 
-const ACCOUNT_HELP: &str = "The account that is explained; without it, all are";
+Examples:
+  span margin params.csv positions.csv --workers 4 >statement.csv
+  span explain params.csv positions.csv --account RIVER-01
+
+Exit status:
+  0  success; `faults` found no fault
+  2  usage error
+  3  a parameter file was rejected
+  4  the position or order file was rejected, or it lacks the account
+  5  out of memory
+  6  a file could not be read, or the output could not be written
+  7  `roll` only: an internal error
+
+`span COMMAND --help` describes a command.
+`man span` describes the files, the output, the faults (input errors) and the limits.";
+
+const ACCOUNT_HELP: &str = "Explain only this account; by default all accounts are explained";
 
 const BAD_ACCOUNT: &str =
     "invalid value for '--account <NAME>': a name is 1 to 16 bytes of A to Z, 0 to 9, _ and -";
 
-const WORKERS_HELP: &str =
-    "Workers that share the accounts, 1 to 16; as many as processors save time";
+const WORKERS_HELP: &str = "Worker threads, 1 to 16; use at most the number of processors";
 
 // What the name of a file is called, with its help, and whether it has to be given.
 #[derive(Clone, Copy)]
@@ -81,31 +97,31 @@ struct CommandRow {
 
 const PARAMS: FileArg = FileArg {
     id: "PARAMS",
-    help: "Parameter file (CSV): a set with its commodities, contracts, tiers and spreads",
+    help: "Parameter file (CSV): commodities, contracts, tiers and spreads of a parameter set",
     required: true,
 };
 
 const NEXT: FileArg = FileArg {
     id: "NEXT",
-    help: "Parameter file (CSV) of the next set",
+    help: "Parameter file (CSV) of the next parameter set",
     required: true,
 };
 
 const POSITIONS: FileArg = FileArg {
     id: "POSITIONS",
-    help: "Position file (CSV): account, contract, quantity in contracts (minus is short)",
+    help: "Position file (CSV): account, contract, quantity in contracts (negative if short)",
     required: true,
 };
 
 const POSITIONS_TOO: FileArg = FileArg {
     id: "POSITIONS",
-    help: "Position file (CSV) whose faults are printed too: account, contract, quantity in contracts",
+    help: "Position file (CSV): account, contract, quantity in contracts (negative if short)",
     required: false,
 };
 
 const ORDERS: FileArg = FileArg {
     id: "ORDERS",
-    help: "Order file (CSV): order, account, contract, quantity in contracts (minus is sold)",
+    help: "Order file (CSV): order, account, contract, quantity in contracts (negative if sold)",
     required: true,
 };
 
@@ -113,37 +129,62 @@ const MARGIN: CommandRow = CommandRow {
     name: "margin",
     about: "Print the margin statement of every account",
     more: "\
-Print a line for each commodity that an account holds, then one for its total:
+Print an R line for each commodity that an account holds, then a T line with the account's total:
   R,account,set,commodity,scan,active,intra,delivery,credit,minimum,requirement
   T,account,set,total
-Under a set of version 2, whose options have a value, the last line goes on with the value of the account's
-options, what it has to bring after that, and what their value is over the total:
+If the parameter set has option values (version 2), the T line has three more fields:
   T,account,set,total,value,due,excess
-Amounts are whole numbers in the minor unit of the set's currency, as cents for USD;
-`active` is the scenario, 1 to 16, that decides the scan risk.
-docs/FORMATS.md describes the files and the statement, docs/METHOD.md the figures.",
+`value` is what the account's options are worth. `due` is the total minus the value, and `excess` is the value
+minus the total; the one that would be negative is 0.
+`active` is the scenario, 1 to 16, that decides the scan risk. Amounts are whole numbers in the minor unit of the
+currency, such as cents.
+
+Example:
+  span margin params.csv positions.csv --workers 4 >statement.csv
+
+Exit status:
+  0  success
+  2  usage error
+  3  the parameter file was rejected
+  4  the position file was rejected
+  5  out of memory
+  6  a file could not be read, or the output could not be written
+
+See `man span` for the files, the output and the faults.",
     files: &[PARAMS, POSITIONS],
     option: Some(OptionArg::Workers),
 };
 
 const EXPLAIN: CommandRow = CommandRow {
     name: "explain",
-    about: "Print why each figure of a margin statement is what it is",
+    about: "Print the statement with the reasons for every figure",
     more: "\
-Print for each account, and for each commodity that the account holds, lines from which its figures can be
-computed by hand, and then its R line; after its commodities its T line. Each line begins with its word, the
-account, the set and, but for T, the commodity. Behind them stand:
-  HELD    contract,type,month,quantity; under a set of version 2 also the value of that position
+For each commodity that an account holds, print the lines from which its R line can be computed by hand, then the
+R line. After the commodities of an account, print its T line. The first fields are the word of the line, account,
+set and, except in T, commodity. The other fields are:
+  HELD    contract,type,month,quantity; if the set has option values (version 2), also the value
   SUMS    the sixteen scenario sums
   SCAN    scan risk,active scenario,paired scenario,price risk
-  MONTH   month,delta,what is left of it after all spreads
+  MONTH   month,delta,delta left after spreads
   INTRA   priority,long side,spreads,rate,charge
   SPOT    month,used,spread rate,left,outright rate,charge
   INTER   priority,long side,spreads,delta used,basis points
   CREDIT  price risk,net delta,weight
   SHORT   short calls,short puts,method,rate
   R, T    as `margin` prints them
-docs/FORMATS.md describes the lines, docs/METHOD.md the figures; docs/GUIDE.md reads them for one account.",
+
+Example:
+  span explain params.csv positions.csv --account RIVER-01
+
+Exit status:
+  0  success
+  2  usage error
+  3  the parameter file was rejected
+  4  the position file was rejected, or it lacks the account
+  5  out of memory
+  6  a file could not be read, or the output could not be written
+
+See `man span` for the files, the output and the faults.",
     files: &[PARAMS, POSITIONS],
     option: Some(OptionArg::Account),
 };
@@ -152,89 +193,163 @@ const WHAT_IF: CommandRow = CommandRow {
     name: "whatif",
     about: "Print what each order would do to the margin of its account",
     more: "\
-Try each order by itself on the positions of its account. Print a line for each commodity whose requirement it
-changes, then one for the account's total:
+Evaluate each order by itself on the positions of its account. Print a CHANGE line for each commodity whose
+requirement changes, then an ORDER line for the account's total:
   CHANGE,order,account,set,commodity,before,after,change
   ORDER,order,account,set,before,after,change
-Under a set of version 2, whose options have a value, the last line goes on with what the account has to bring
-after that value:
+If the parameter set has option values (version 2), the ORDER line also shows what the account has to post, which
+is its total minus its option value:
   ORDER,order,account,set,before,after,change,due before,due after,due change
-An order is all records with its name. `before` is without the order, `after` with it, `change` after less before.
-docs/FORMATS.md describes the files and the lines; docs/WHATIF.md tries orders in commands.",
+All records with the same order name are one order. `before` is without the order, `after` is with it, and
+`change` is after minus before.
+
+Example:
+  span whatif params.csv positions.csv orders.csv
+  echo BUY,RIVER-01,CLZ5,6 | span whatif params.csv positions.csv /dev/stdin
+
+Exit status:
+  0  success
+  2  usage error
+  3  the parameter file was rejected
+  4  the position or order file was rejected
+  5  out of memory
+  6  a file could not be read, or the output could not be written
+
+See `man span` for the files, the output and the faults.",
     files: &[PARAMS, POSITIONS, ORDERS],
     option: Some(OptionArg::Workers),
 };
 
 const SESSION: CommandRow = CommandRow {
     name: "session",
-    about: "Answer requests about accounts, read from standard input",
+    about: "Answer requests on standard input",
     more: "\
-Read both files as `margin` does, then requests from standard input to its end, one a line. Answer each before the
-next is read:
-  MARGIN                                             the statement of all accounts
-  MARGIN,account                                     the lines of one account
-  EXPLAIN,account                                    the lines that `explain` prints for it
-  TRY,order,account,contract,quantity                the lines that `whatif` prints for that order
-  FILL,account,contract,quantity                     add a quantity to a position; the account's new T line
-  SET,file                                           use another parameter file; the line that `check` prints for it
-  POSITIONS                                          the positions of all accounts, as position records
-TRY and FILL take up to 64 pairs of contract and quantity. Behind its lines an answer has the line `done` with the
-number of the request. A request that is refused changes nothing; its answer is one line, with the reason:
+Read both files as `margin` does. Then read requests from standard input until it ends, one per line, and answer
+each before the next is read:
+  MARGIN                               the statement of all accounts
+  MARGIN,account                       the lines of one account
+  EXPLAIN,account                      the lines that `explain` prints for it
+  TRY,order,account,contract,quantity  the lines that `whatif` prints for this order
+  FILL,account,contract,quantity       add the quantity to the position; prints the new T line
+  SET,file                             use another parameter file; prints the line of `check`
+  POSITIONS                            all positions, as records of a position file
+TRY and FILL accept up to 64 pairs of contract and quantity. The last line of an answer is `done` with the number
+of the request. A rejected request changes nothing. Its answer is one line with the reason:
   done,1
   refused,2,request: B1 UnknownContract at field 3
-docs/FORMATS.md describes requests, answers and faults.",
+The first answer has number 0: the line that `check` prints for PARAMS, and `done,0`.
+
+Example:
+  echo MARGIN,RIVER-01 | span session params.csv positions.csv
+
+Exit status:
+  0  the input ended, and every request was answered
+  2  usage error
+  3  the parameter file was rejected
+  4  the position file was rejected
+  5  out of memory
+  6  a file or the requests could not be read, or the output could not be written
+
+See `man span` for the files, the requests, the answers and the faults.",
     files: &[PARAMS, POSITIONS],
     option: Some(OptionArg::Workers),
 };
 
 const ROLL: CommandRow = CommandRow {
     name: "roll",
-    about: "Print the margin statements under a set and under the next",
+    about: "Print the statement under one parameter set, then under the next",
     more: "\
-Print the statement under PARAMS, as `margin` does, and after it that under NEXT, for the same positions.
-NEXT is made ready beside the first batch. The lines of the two statements have the ids of their sets.
-docs/GUIDE.md has a day's roll in commands.",
+Print the statement under PARAMS, then the statement under NEXT, for the same positions. The lines are as `margin`
+prints them. Their third field, the id of the parameter set, says which statement they belong to.
+
+Example:
+  span roll friday.csv monday.csv positions.csv >statements.csv
+
+Exit status:
+  0  success
+  2  usage error
+  3  a parameter file was rejected
+  4  the position file was rejected, under PARAMS or NEXT
+  5  out of memory
+  6  a file could not be read, or the output could not be written
+  7  an internal error: the result store or the published parameter set failed
+
+See `man span` for the files, the output and the faults.",
     files: &[PARAMS, NEXT, POSITIONS],
     option: Some(OptionArg::Workers),
 };
 
 const FAULTS: CommandRow = CommandRow {
     name: "faults",
-    about: "Print all faults of a parameter file, and of a position file beside it",
+    about: "Print every error in the files",
     more: "\
-Print a line for each fault, as `margin` prints the first alone:
+Print a line for each fault, which is an input error with a code. The first line is the one that `margin` prints:
   parameters: C3 DuplicateContract at record 7
   positions: B1 UnknownContract at record 2 account X
-Of PARAMS each record that cannot be read has a line, with the lowest-numbered fault that it has; where all are read,
-each rule and record that breaks it has one. Of POSITIONS each record that cannot be read has a line, whatever PARAMS is;
-where all are read, and PARAMS has no fault, each fault of binding has one.
-The status is 0, and nothing is printed, where there is no fault; else 3 where PARAMS has one, and 4 where POSITIONS
-alone has.
-docs/FORMATS.md describes the faults and their order.",
+P1 to P8: each record of PARAMS that cannot be read has one line, with its lowest-numbered fault.
+C1 to C11: if every record of PARAMS can be read, each rule has a line for each record that breaks it.
+Q1 to Q5: each record of POSITIONS that cannot be read has one line, whatever PARAMS is.
+B1 to B3: if there are no other faults, each fault of the positions under these parameters has a line.
+
+Example:
+  span faults params.csv positions.csv
+
+Exit status:
+  0  there is no fault, and nothing is printed
+  2  usage error
+  3  PARAMS has a fault
+  4  only POSITIONS has a fault
+  5  out of memory
+  6  a file could not be read, or the output could not be written
+
+See `man span` for the meaning of each code.",
     files: &[PARAMS, POSITIONS_TOO],
     option: None,
 };
 
 const CHECK: CommandRow = CommandRow {
     name: "check",
-    about: "Check a parameter file and count its records",
+    about: "Check a parameter set, and print its counts",
     more: "\
-Print one line, with the id of the set and how many records of each kind it has:
+Print one line with the id of the parameter set and the number of its records of each kind:
   OK,set,commodities,contracts,tiers,intra,spots,inter
-A file that is no valid set is refused with its first fault and the number of the record.
-docs/FORMATS.md describes the records and the faults.",
+If the file is rejected, print its first fault and the number of the record on standard error. `span faults`
+prints all faults.
+
+Example:
+  span check params.csv
+
+Exit status:
+  0  success
+  2  usage error
+  3  the parameter file was rejected
+  5  out of memory
+  6  a file could not be read, or the output could not be written
+
+See `man span` for the records and the faults.",
     files: &[PARAMS],
     option: None,
 };
 
 const PLAN: CommandRow = CommandRow {
     name: "plan",
-    about: "Print the steps of the compiled plan of a parameter file",
+    about: "Print the calculation steps of a parameter set",
     more: "\
-Print a line for each step: its number, its operation, and the numbers of its inputs:
+Print a line for each step of the compiled plan: its number, its operation, and the numbers of its inputs:
   7 Final(0) 2 4 5 6 19
-A file that is no valid set is refused as by `check`.
-docs/ARCHITECTURE.md describes the steps.",
+If the file is rejected, the line on standard error is the one that `check` prints.
+
+Example:
+  span plan params.csv
+
+Exit status:
+  0  success
+  2  usage error
+  3  the parameter file was rejected
+  5  out of memory
+  6  a file could not be read, or the output could not be written
+
+See `man span` for the records and the faults.",
     files: &[PARAMS],
     option: None,
 };
@@ -315,7 +430,7 @@ fn with_files<'a>(alloc: Global, row: &CommandRow) -> Result<Command<'a>, AllocE
 {
     let mut command = Command::new(alloc, row.name)
         .about(row.about)
-        .after_help(row.more);
+        .after_long_help(row.more);
     for file in row.files {
         command = with_arg(command, file_arg(alloc, file))?;
     }
@@ -339,8 +454,8 @@ fn without_commands<'a>(alloc: Global) -> Command<'a>
     ensures { app_of result ≡ app_without_commands }
 {
     Command::new(alloc, "span")
-        .about("Margins futures and options accounts by the SPAN method")
-        .after_help(SPAN_MORE)
+        .about("Compute SPAN margin requirements for accounts of futures and options")
+        .after_long_help(SPAN_MORE)
         .version(VERSION)
         .subcommand_required(true)
 }
