@@ -1,10 +1,10 @@
-# Completion of span for bash: commands, options, numbers of workers, and files. tools/texts compares its words with the program's help.
+# Completion of span for bash: commands, options, numbers of workers, and files. tools/texts compares it with the program's help.
 
 _span() {
     local word=${COMP_WORDS[COMP_CWORD]} before='' command='' at
     [ "$COMP_CWORD" -lt 1 ] || before=${COMP_WORDS[COMP_CWORD - 1]}
     COMPREPLY=()
-    # bash takes --workers=4 for three words
+    # bash splits --workers=4 into three words
     if [ "$word" = = ]; then
         word=''
     elif [ "$before" = = ] && [ "$COMP_CWORD" -gt 1 ]; then
