@@ -1,4 +1,4 @@
--- What is parsed of a text is the number that it spells.
+-- A text is parsed as the number that it spells.
 use Rattle.std.proofs.Common.{◌≡◌, ℕ, Bool, true, false, Some, None, Result, Ok, Err, refl, ap, arith}
 use Rattle.std.specs.Prelude.{if◌then◌else◌}
 use Rattle.std.specs.Result.{result_ok}

@@ -1,4 +1,4 @@
--- Files that are read one behind another, and command lines for which none is read.
+-- Files that are read one after the other, and command lines for which no file is read.
 use Rattle.std.proofs.Common.{◌≡◌, ◌⊎◌, ◌+◌, ◌<◌, ◌≤◌, ℕ, Bool, true, false, List, [], None, refl, sym, subst, inl, inr, length, get_or}
 use Rattle.std.proofs.Common.{drop, map, Bor}
 use Rattle.std.proofs.lemmas.List.{at_drop_all, at_drop_more}
@@ -13,7 +13,7 @@ abbrev pub texts : List (Bor (List ℕ)) → List (List ℕ)
 texts names = map (λ name. name.now) names
 
 module _ {S : Type 0} (reads : S → List ℕ → Bool → S → Type 0) where
-  -- whatever is left of reading these from now on, with it the whole was read
+  -- if these files are read next, whatever the result, the whole list was read
   abbrev pub GoesOn : S → List (List ℕ) → S → List (List ℕ) → Type 0
   GoesOn old whole now names = (new : S) → ReadsInOrder reads now names new → ReadsInOrder reads old whole new
 

@@ -1,4 +1,4 @@
--- A session that is refused for its files is refused as their statement is.
+-- A session whose files are rejected has the fault of their statement.
 use Rattle.std.proofs.Common.{◌≡◌, ◌<◌, ◌≤◌, ℕ, false, List, Result, Ok, Err, arith}
 use Rattle.std.specs.Prelude.{◌||◌, ◌==◌, nat_lt}
 use Rattle.session.specs.Answers.{opened}
@@ -10,13 +10,13 @@ use Rattle.statement_text.specs.declared.faults.SpanFault.TheVariants as fault
 use Rattle.worker_pool.specs.declared.batch.TheConstants.{MAX_WORKERS}
 
 module _ {A B C F : Type 0} (named : F → SpanFault) (e : SpanFault) where
-  -- a fault that comes of one outcome comes of it too where something else follows that has this fault as well
+  -- if g fails with e whenever f does, then an outcome followed by g fails with e whenever it does followed by f
   refused_too : (o : Result A F) (f : A → Result B SpanFault) (g : A → Result C SpanFault) → ((x : A) → f x ≡ Err e → g x ≡ Err e)
       → and_then named o f ≡ Err e → and_then named o g ≡ Err e
   refused_too (Ok x) f g h is = h x is
   refused_too (Err y) f g h is = cc
 
--- what follows without a fault leaves the outcome's fault
+-- if what follows an outcome cannot fail, the fault is the outcome's
 refused_first : {A B : Type 0} (o : Result A SpanFault) (f : A → B) (e : SpanFault) → and_then same o (λ x. Ok (f x)) ≡ Err e → o ≡ Err e
 refused_first (Ok x) f e is = cc
 refused_first (Err y) f e is = cc
@@ -33,7 +33,7 @@ refused_opening : (params positions : List ℕ) (turns : List Turn) (e : SpanFau
 unfolding session_of
 refused_opening params positions turns e is = refused_first (opened params positions) _ e is
 
--- a number of workers that there can be is not refused
+-- a valid number of workers is not rejected
 within_limits : (workers : ℕ) → 0 < workers → workers ≤ MAX_WORKERS → (workers == 0 || nat_lt MAX_WORKERS workers) ≡ false
 within_limits workers some within = grind arith
 

@@ -1,4 +1,4 @@
--- What goes out of an answer.
+-- What is written for an answer.
 use Rattle.std.proofs.Common.{◌≡◌, ◌⊎◌, ◌++◌, ℕ, List, [], ◌∷◌, false, true, is_some, Option, Some, None, Result, Ok, Err}
 use Rattle.std.proofs.Common.{◌+◌, ◌<◌, ◌&&◌, Bool, refl, sym, subst, ap, append_assoc, inl, inr, length, get_or, map, drop, Bor}
 use Rattle.std.proofs.lemmas.List.{append-nil, at_drop_more}
@@ -40,7 +40,7 @@ pub Appends-none : (o : Option (List ℕ)) → Appends o o []
 Appends-none None = tt
 Appends-none (Some xs) = sym (append-nil xs)
 
--- a refusal went out
+-- a rejection was written
 pub refused_tells : (status : ℕ) (line : List ℕ) (given : ℕ) (out old_err new_err : Stream)
     → out.failed ≡ false → given ≡ status → Says old_err new_err line
     → Tells (refused status line) given out out old_err new_err
@@ -53,14 +53,14 @@ refused_tells status line given out old_err new_err fresh same said = record {
 
 -- ---- answers
 
--- what a roll gives
+-- the result of a roll
 pub of_roll : {Y : Type 0} (view : Y → List ℕ) (workers : ℕ) (params next positions : List ℕ) (r : Result Y SpanFault)
     → GivesRoll view workers params next positions r
     → MayGive (λ y. done (view y)) r (IsOfRoll workers params next positions)
 of_roll view workers params next positions (Ok y) h = record { given = Ok (view y); gives = h; is = refl }
 of_roll view workers params next positions (Err e) h = inr (record { given = Err e; gives = h; is = refl })
 
--- ---- files that are read one behind another
+-- ---- files that are read one after the other
 
 -- the next file was read
 pub next_read : (whole : Found) (files : List (List ℕ)) (name : List ℕ) (file : Option File)
@@ -77,7 +77,7 @@ next_read (Some o) files name (Some f) bytes others known h = read others (rw kn
   read (Some (Err refusal)) h = h
   read (Some (Ok rest)) h = rw (append_assoc) h
 
--- the next file of these names was read
+-- the next of these files was read
 pub next_of_names : (file later : List ℕ → Option File) (whole : Found)
     (files : List (List ℕ)) (names : List (Bor (List ℕ))) (i : ℕ) (none : Bor (List ℕ)) (bytes : List ℕ) → i < length names
     → ((name : List ℕ) → later name ≡ file name) → IfSome (later (get_or names i none).now) (λ f. f ≡ Ok bytes)
@@ -88,7 +88,7 @@ next_of_names file later whole files names i none bytes within same known h =
     (subst (λ o. IfSome o (λ f. f ≡ Ok bytes)) (same (get_or names i none).now) known)
     (rw (at_drop_more (λ rest. all_read file (map (λ name. name.now) rest)) names i none within) at h)
 
--- all were read
+-- all files were read
 pub last_read : (whole : Found) (files : List (List ℕ))
     → IfSome whole (λ o. read_then files (Some (Ok [])) ≡ Some o) → IfSome whole (λ o. o ≡ Ok files)
 last_read None files h = tt
@@ -108,7 +108,7 @@ unread_found view (Some o) files name (Some f) others (refusal.File n) (same, in
     let found = rw (long) at h in inr (rw (same) cc)
 unread_found view (Some o) files name (Some f) others (refusal.Fault e) known h = inl (ap refusal.Fault known)
 
--- the next file of these names was not read
+-- the next of these files was not read
 pub unread_of_names : {X : Type 0} (view : X → List ℕ) (file later : List ℕ → Option File)
     (whole : Found) (files : List (List ℕ)) (names : List (Bor (List ℕ))) (i : ℕ)
     (none : Bor (List ℕ)) (r : Refusal) → i < length names → ((name : List ℕ) → later name ≡ file name)
@@ -121,15 +121,15 @@ unread_of_names view file later whole files names i none r within same known h =
     (subst (λ o. IfSome o (λ f. Loads view name f (Err r))) (same name) known)
     (rw (at_drop_more (λ rest. all_read file (map (λ name. name.now) rest)) names i none within) at h)
 
--- what is found under a name that has the same file
+-- two sources with the same file under a name give the same result for it
 pub found_same : (is_session : Bool) (file later : List ℕ → Option File) (name : List ℕ) → later name ≡ file name
     → found_under is_session later name ≡ found_under is_session file name
 found_same is_session file later name same =
     ap (λ (o : Option File). if is_session && is_stdin name then Some (Err read.Failed) else o) same
 
--- ---- what comes of a request
+-- ---- the outcome of a request
 
--- what is answered to a command for its files, whatever else there is
+-- the answer that a command has for its files alone is its answer in every environment
 at_once : (outside : Outside) (command : Command) (files : List (List ℕ)) (answer : Answer) → answered command files answer
     → answered_amid outside command files answer
 at_once outside Check files answer h = h
@@ -141,7 +141,7 @@ at_once outside (WhatIf workers) files answer h = h
 at_once outside Faults files answer h = h
 at_once outside (Session workers) files answer h = absurd h
 
--- a session of files that open it has the texts of the state, and one of files that do not their fault
+-- a session has the texts of its state if its files open it, and their fault otherwise
 session_texts : (params positions : List ℕ) (turns : List Turn) (s : State) → opened params positions ≡ Ok s
     → session_of params positions turns ≡ Ok (texts_from s turns)
 unfolding session_of
@@ -152,7 +152,7 @@ session_fault : (params positions : List ℕ) (turns : List Turn) (e : SpanFault
 unfolding session_of
 session_fault params positions turns e is = rw is refl
 
--- a command is refused by its fault for its files, whatever else there is, if no request was taken
+-- if no request was taken, the fault of the files is the answer in every environment
 refuses_amid : (outside : Outside) (command : Command) (files : List (List ℕ)) (e : SpanFault) → outside.turns ≡ []
     → Refuses command files e → answered_amid outside command files (answer_of (Err e))
 refuses_amid outside Check files e none h = h
@@ -168,7 +168,7 @@ refuses_amid outside (Session workers) (params ∷ positions ∷ []) e none h =
     rw (session_fault params positions outside.turns e h) (none, refl)
 refuses_amid outside (Session workers) (params ∷ positions ∷ more ∷ rest) e none h = absurd h
 
--- the answer to what is asked, if its files were found so
+-- the answer to the request, if the sources have these files
 found_so : (file : List ℕ → Option File) (asked : Asked) (answer : Answer)
     → ((outside : Outside) → outside.turns ≡ [] → IsAnswered outside asked.0 (found_by file asked) answer)
     → (outside : Outside) → outside.file ≡ file → outside.turns ≡ [] → IsAnswer outside asked answer
@@ -185,7 +185,7 @@ unread_runs file asked r h = of_files (found_by file asked) refl h where
   of_files (Some o) is (inl memory) = inl memory
   of_files (Some o) is (inr unread) = inr (found_so file asked (refusal_answer r) (λ outside none. rw (is, unread) (none, refl)))
 
--- the answer to a request that is refused for its files
+-- the answer to a request whose files are rejected
 pub fault_runs : (file : List ℕ → Option File) (asked : Asked) (files : List (List ℕ)) (e : SpanFault)
     → IfSome (found_by file asked) (λ o. o ≡ Ok files) → (e ≡ fault.Memory) ⊎ Refuses asked.0 files e
     → Runs file asked (Err (refusal.Fault e))
@@ -197,7 +197,7 @@ fault_runs file asked files e h (inr refuses) =
       of_files outside none None h = tt
       of_files outside none (Some o) is = rw is (refuses_amid outside asked.0 files e none refuses)
 
--- what comes of a request whose files were read
+-- the outcome of a request whose files were read
 pub read_runs : (file : List ℕ → Option File) (asked : Asked) (files : List (List ℕ)) (came : Outcome)
     → IfSome (found_by file asked) (λ o. o ≡ Ok files) → ComesOf asked.0 files came → Runs file asked (Ok came)
 read_runs file asked files came h comes = of_files (found_by file asked) h where
@@ -206,9 +206,9 @@ read_runs file asked files came h comes = of_files (found_by file asked) h where
   of_files None h = tt
   of_files (Some o) is = (files, is, comes)
 
--- ---- what goes out of it
+-- ---- what is written for it
 
--- if there are no turns, no command has any
+-- if there are no turns, no command has turns
 no_turns : (command : Command) → turns_in command [] ≡ []
 no_turns Check = refl
 no_turns Plan = refl
@@ -230,13 +230,13 @@ all_turns (WhatIf workers) turns takes = cc
 all_turns Faults turns takes = cc
 all_turns (Session workers) turns takes = refl
 
--- only the files that are asked for were read
+-- only the files of the request were read
 pub files_read : {S : Type 0} (reads : S → List ℕ → Bool → S → Type 0) (old new : S) (asked : Asked)
     → ReadsInOrder (reads_under (takes_requests asked.0) reads) old asked.1 new → ReadsAsked reads old [] (Some asked) new
 files_read reads old new asked h =
     (new, h, subst (λ (turns : List Turn). ReadsAll reads new (reads_of turns) new) (sym (no_turns asked.0)) refl)
 
--- an answer that a request gives at once went out
+-- the immediate answer to a request was written
 pub given_serves : (file : List ℕ → Option File) (input : Option (List ℕ)) (asked : Asked) (g : Given) (given : ℕ)
     (old_out new_out old_err new_err : Stream) → Runs file asked (Ok (outcome.Answer g))
     → Tells (given_answer g) given old_out new_out old_err new_err
@@ -249,7 +249,7 @@ given_serves file input asked g given old_out new_out old_err new_err runs told 
       of_files None h = tt
       of_files (Some o) (files, is, holds) = rw is (at_once (around file input [] new_out.failed) asked.0 files (given_answer g) holds)
 
--- what is said of a refusal is the answer, or out of memory
+-- what is written for a rejection is the answer, or out of memory
 pub refusal_serves : (file : List ℕ → Option File) (input : Option (List ℕ)) (asked : Asked) (r : Refusal) (given : ℕ)
     (out old_err new_err : Stream) → out.failed ≡ false → given ≡ refusal_status r → Says old_err new_err (refusal_line r)
     → Runs file asked (Err r) → Serves (around file input [] out.failed) asked given out out old_err new_err
@@ -283,7 +283,7 @@ opened_answer outside (Roll workers) files o count ending opens conversed = absu
 opened_answer outside (WhatIf workers) files o count ending opens conversed = absurd opens
 opened_answer outside Faults files o count ending opens conversed = absurd opens
 
--- a session was served from sources that are still what they were
+-- the conversation of a session whose sources did not change before it
 conversed_before : (file later : List ℕ → Option File) (input : Option (List ℕ)) (turns : List Turn) (is_unwritten : Bool) (ending : Ending)
     → ((name : List ℕ) → later name ≡ file name) → IsConversation (around later input turns is_unwritten) ending
     → IsConversation (around file input turns is_unwritten) ending
@@ -297,7 +297,7 @@ conversed_before file later input turns is_unwritten ending same h = record {
   ends_before CutOff h = h
   ends_before Unwritten h = h
 
--- a session that a request opens was served, or memory ran out before
+-- a session that a request opens was served, or memory ran out before it began
 pub session_serves : {S : Type 0} (file later : List ℕ → Option File) (reads : S → List ℕ → Bool → S → Type 0) (old mid new : S)
     (input : Option (List ℕ)) (asked : Asked) (o : Opened) (count : ℕ) (given : ℕ) (old_out new_out old_err new_err : Stream)
     → ((name : List ℕ) → later name ≡ file name) → Runs file asked (Ok (outcome.Session o count)) → takes_requests asked.0 ≡ true
@@ -332,22 +332,22 @@ session_serves {S} file later reads old mid new input asked o count given old_ou
             told = t.told;
           })
 
--- words that ask for something may be answered out of memory
+-- the answer to a valid request may be out of memory
 pub memory_serves : (outside : Outside) (o : Option Asked) (given : ℕ) (old_out new_out old_err new_err : Stream)
     → outside.turns ≡ [] → is_some o ≡ true → Tells memory given old_out new_out old_err new_err
     → ServesAsked outside o given old_out new_out old_err new_err
 memory_serves outside None given old_out new_out old_err new_err none some told = cc
 memory_serves outside (Some asked) given old_out new_out old_err new_err none some told = inr (none, told)
 
--- ---- words
+-- ---- arguments
 
--- words that are refused for out of memory
+-- arguments that are rejected because memory ran out
 pub memory_told : (e : Error) (given : ℕ) (old_out new_out old_err new_err : Stream) → kind_of e ≡ kind.OutOfMemory
     → telling.RefusesWords (kind_of e) given old_out new_out old_err new_err → Tells memory given old_out new_out old_err new_err
 memory_told e given old_out new_out old_err new_err wanted told =
     subst (λ (k : ErrorKind). telling.RefusesWords k given old_out new_out old_err new_err) wanted told
 
--- words that are refused for one of these kinds of reason, or because memory ran out
+-- arguments that are rejected for an error of one of these kinds, or because memory ran out
 refused_by : (kinds : Kinds) (e : Error) (given : ℕ) (old_out new_out old_err new_err : Stream) → HasKind kinds e
     → telling.RefusesWords (kind_of e) given old_out new_out old_err new_err → RefusesWordsBy kinds given old_out new_out old_err new_err
 refused_by kinds e given old_out new_out old_err new_err (inl wanted) told = of_memory kinds where
@@ -360,13 +360,13 @@ refused_by kinds e given old_out new_out old_err new_err (inr among) told = of_k
   of_kind (k ∷ ks) (inl is) = inl (subst (λ (x : ErrorKind). telling.RefusesWords x given old_out new_out old_err new_err) is told)
   of_kind (k ∷ ks) (inr later) = inr (of_kind ks later)
 
--- words that nothing refuses
+-- arguments that nothing rejects
 pub words_answered : (kinds : Kinds) (answered : Type 0) (given : ℕ) (old_out new_out old_err new_err : Stream) → kinds ≡ []
     → answered → AnswersWords kinds answered given old_out new_out old_err new_err
 words_answered [] answered given old_out new_out old_err new_err none holds = holds
 words_answered (k ∷ ks) answered given old_out new_out old_err new_err none holds = cc
 
--- words that may be refused: what goes out is that memory ran out, or the answer of their kind
+-- arguments that may be rejected: out of memory is reported, or an error of one of their kinds
 pub words_refused : (kinds : Kinds) (answered : Type 0) (e : Error) (given : ℕ) (old_out new_out old_err new_err : Stream)
     → HasKind kinds e → telling.RefusesWords (kind_of e) given old_out new_out old_err new_err
     → (kinds ≡ [] → Tells memory given old_out new_out old_err new_err → answered)

@@ -1,4 +1,4 @@
--- What went out of a session that was served.
+-- What is written for a session that was served.
 use Rattle.std.proofs.Common.{◌≡◌, ◌∙◌, ◌⊎◌, ◌++◌, ◌-◌, ◌^◌, ◌+◌, ℕ, Bool, true, false, List, [], ◌∷◌, Option, Some, None, Result, Ok, Err}
 use Rattle.std.proofs.Common.{refl, sym, ap, subst, inl, inr, length}
 use Rattle.std.proofs.lemmas.List.{map-append}
@@ -24,12 +24,12 @@ use Rattle.span_cli.specs.near.Sessions.{TellsSession, ending_of, texts_from}
 abbrev flat : List (List ℕ) → List ℕ
 flat texts = flat_map (λ text. text) texts
 
--- more follows for what is there
+-- a stronger property of an optional value implies a weaker one
 if_some_map : {X : Type 0} (o : Option X) (P Q : X → Type 0) → ((x : X) → P x → Q x) → IfSome o P → IfSome o Q
 if_some_map None P Q f h = tt
 if_some_map (Some x) P Q f h = f x h
 
--- to a stream that failed anything may have been said
+-- nothing is known of what a failed stream has
 says_failed : (old new : Stream) (bytes : List ℕ) → new.failed ≡ true → Says old new bytes
 says_failed old new bytes failed = rw failed tt
 
@@ -82,7 +82,7 @@ module _ (file : List ℕ → Option File) (s : State) (turns : List Turn) (d : 
         if_some_map d.given _ (λ bytes. (more : List (Option (List ℕ))) × (requests_in bytes ≡ requests_of turns ++ more))
         (λ bytes h. (h.0, h.1 ∙ ap (λ requests. requests ++ h.0) requests_are)) dealt.asked
 
-  -- the session ended so
+  -- how the session ended
   pub ends_so : (r : Result (Unit {0}) DeskFault) → IsServed s r turns [] d.log
       → OnOk r (IsAtEnd d ⊎ (length turns ≡ 2 ^ 64 - 1)) → (r ≡ Err desk.Input → IsCutOff d)
       → (r ≡ Err desk.Output → d.output.failed ≡ true) → (failed : Bool) → d.output.failed ≡ failed
@@ -106,7 +106,7 @@ module _ (file : List ℕ → Option File) (s : State) (turns : List Turn) (d : 
     ends = ends_so r served done cut unwritten d.output.failed refl;
   }
 
-  -- what went to the output
+  -- what was written to the output
   said : (r : Result (Unit {0}) DeskFault) → IsServed s r turns [] d.log → (r ≡ Err desk.Output → d.output.failed ≡ true)
       → (failed : Bool) → d.output.failed ≡ failed
       → Says d.began d.output (ended_answer (ending_of failed r) (texts_from s turns)).out
@@ -117,7 +117,7 @@ module _ (file : List ℕ → Option File) (s : State) (turns : List Turn) (d : 
       subst (λ bytes. Says d.began d.output bytes) (ap told_in served ∙ told_log s turns) dealt.told
   said (Err desk.Output) served unwritten false is = let failed = unwritten refl in cc
 
-  -- the status of an end, and what is said of it, whatever the texts
+  -- the status and the line of an end do not depend on the texts
   same_status : (r : Result (Unit {0}) DeskFault) (failed : Bool)
       → (told failed (ended_answer (ending_of failed r) [])).status
       ≡ (told failed (ended_answer (ending_of failed r) (texts_from s turns))).status
@@ -149,7 +149,7 @@ module _ (file : List ℕ → Option File) (s : State) (turns : List Turn) (d : 
     cause = cause r d.output.failed;
   }
 
--- a session that was served printed its answers and its line, and gave its status
+-- a session that was served has written its answers and its line, and returned its status
 pub serves_session : {S : Type 0} (file : List ℕ → Option File) (reads : S → List ℕ → Bool → S → Type 0) (before after : S) (s : State)
     (r : Result (Unit {0}) DeskFault) (d : Dealings) (input : Option (List ℕ)) (given : ℕ) (old_out new_out old_err new_err : Stream)
     → ((turns : List Turn) × AreFromSource file reads before turns after × IsServed s r turns [] d.log
@@ -173,12 +173,12 @@ serves_session file reads before after s r d input given old_out new_out old_err
 
 -- ---- sources
 
--- no turns ask for files
+-- no turns read no files
 pub no_files : {S : Type 0} (file : List ℕ → Option File) (reads : S → List ℕ → Bool → S → Type 0) (now : S)
     → AreFromSource file reads now [] now
 no_files file reads now = record { files = All-nil (IsFromSource file); in_order = refl }
 
--- what was found under names in one source was found in another that has the same under them
+-- files from one source are also files from another source that has the same ones under all names
 pub same_source : (later file : List ℕ → Option File) (asked : List (List ℕ × File)) → ((name : List ℕ) → later name ≡ file name)
     → All (IsFromSource later) asked → All (IsFromSource file) asked
 same_source later file asked same h =

@@ -1,4 +1,4 @@
--- Words that are taken, and the kinds of mistake of words that are not.
+-- Valid arguments, and the kinds of error of the others.
 use Rattle.std.proofs.Common.{◌≡◌, ◌&&◌, Bool, true, false, List, [], ◌∷◌, Option, Some, None, length, refl, arith, eqb-true, inl, inr}
 use Rattle.std.specs.List.{AllByRecursion}
 use Rattle.std.specs.Prelude.{◌⊎◌, ◌++◌, bytes_eq, codes, drop, is_some, option_and_then, if◌then◌else◌}
@@ -13,9 +13,9 @@ use Rattle.span_cli.specs.Serving.{Asked}
 use Rattle.span_cli.specs.Words.{CommandWords, FileWord, asked_among, asked_by_words, asked_in, commands, form_kinds, is_request}
 use Rattle.span_cli.specs.Words.{kinds_of, needed, span_app}
 
--- ---- kinds and what is asked
+-- ---- kinds of error, and the request
 
--- the kinds of a value that nothing is asked by
+-- the kinds of error if the values make no request
 abbrev value_kinds : Option Asked → Kinds
 value_kinds o = if is_some o then [] else kind.ValueValidation ∷ []
 
@@ -40,7 +40,7 @@ more_kinds (x ∷ kinds) more k among = among
 
 -- ---- the parameter file
 
--- a command whose first file has to be given asks for nothing without it
+-- a command whose first file is required makes no request without it
 without_first : (command : CommandWords) (id : Text) (files : List FileWord) (rows : List Row)
     → command.files ≡ needed (id ∷ []) ++ files → first_of id rows ≡ None → asked_by_words command rows ≡ None
 without_first command id files rows is none = rw (is, none) refl
@@ -49,7 +49,7 @@ unless_asked : (b : Bool) (x y : Option Asked) → x ≡ None → y ≡ None →
 unless_asked true x y is other = is
 unless_asked false x y is other = other
 
--- commands that need the parameter file ask for nothing without it
+-- commands that require the parameter file make no request without it
 none_among : (all : List CommandWords) (name : Text) (rows : List Row) → first_of (codes "PARAMS") rows ≡ None
     → AllByRecursion (λ c. c.files ≡ needed (codes "PARAMS" ∷ []) ++ drop 1 c.files) all → asked_among all name rows ≡ None
 none_among [] name rows none need = refl
@@ -57,18 +57,18 @@ none_among (c ∷ all) name rows none need =
     unless_asked (bytes_eq name c.name) (asked_by_words c rows) (asked_among all name rows)
     (without_first c (codes "PARAMS") (drop 1 c.files) rows need.0 none) (none_among all name rows none need.1)
 
--- every command needs it
+-- every command requires the parameter file
 pub without_params : (name : Text) (rows : List Row) → first_of (codes "PARAMS") rows ≡ None → asked_among commands name rows ≡ None
 without_params name rows none = none_among commands name rows none (refl, (refl, (refl, (refl, (refl, (refl, (refl, (refl, tt))))))))
 
--- ---- words that are taken
+-- ---- valid arguments
 
--- they ask for something
+-- they make a request
 pub taken_asks : (words : List Text) → is_request words ≡ true → is_some (asked_in words) ≡ true
 unfolding is_request
 taken_asks words taken = (taken_has (form_kinds words) (asked_in words) taken).1
 
--- what names nothing asks for nothing
+-- without a named command there is no request
 named : {X Y : Type 0} (f : X → Option Y) (o : Option X) → is_some (option_and_then f o) ≡ true → is_some o ≡ true
 named f None some = cc
 named f (Some x) some = refl
@@ -78,7 +78,7 @@ pub taken_names : (words : List Text) → is_request words ≡ true → is_some 
 taken_names words taken =
     named (λ (p : Text × List Row). asked_among commands p.0 p.1) (subcommand_of span_app words) (taken_asks words taken)
 
--- words that nothing refuses are taken
+-- arguments that nothing rejects are valid
 pub unrefused_taken : (words : List Text) → kinds_of words ≡ [] → is_request words ≡ true
 unfolding is_request kinds_of
 unrefused_taken words none = none_taken (form_kinds words) (asked_in words) none
@@ -86,12 +86,12 @@ unrefused_taken words none = none_taken (form_kinds words) (asked_in words) none
 pub unrefused_asks : (words : List Text) → kinds_of words ≡ [] → is_some (asked_in words) ≡ true
 unrefused_asks words none = taken_asks words (unrefused_taken words none)
 
--- words without a mistake in the form, which ask for something, are refused by nothing
+-- nothing rejects arguments that have a valid form and make a request
 pub no_mistake : (words : List Text) (asked : Asked) → form_kinds words ≡ [] → asked_in words ≡ Some asked → kinds_of words ≡ []
 unfolding kinds_of
 no_mistake words asked well is = rw (well, is) refl
 
--- words that are taken are refused only because memory ran out
+-- valid arguments are rejected only because memory ran out
 pub taken_fails : (words : List Text) (e : Error) → HasKind (kinds_of words) e → is_request words ≡ true → kind_of e ≡ kind.OutOfMemory
 unfolding is_request kinds_of
 taken_fails words e (inl memory) taken = memory
@@ -99,15 +99,15 @@ taken_fails words e (inr among) taken =
     let none = taken_none (form_kinds words) (asked_in words) (taken_has (form_kinds words) (asked_in words) taken) in
     absurd (rw (none) at among)
 
--- ---- words that are refused
+-- ---- arguments that are rejected
 
--- a mistake in the form is one of the words
+-- an error of the form is an error of the arguments
 pub form_mistake : (words : List Text) (e : Error) → HasKind (form_kinds words) e → HasKind (kinds_of words) e
 unfolding kinds_of
 form_mistake words e (inl memory) = inl memory
 form_mistake words e (inr among) = inr (more_kinds (form_kinds words) (value_kinds (asked_in words)) (kind_of e) among)
 
--- words without a mistake in the form, which ask for nothing
+-- arguments that have a valid form and make no request
 pub value_mistake : (words : List Text) (e : Error) → form_kinds words ≡ [] → asked_in words ≡ None
     → (kind_of e ≡ kind.OutOfMemory) ⊎ (kind_of e ≡ kind.ValueValidation) → HasKind (kinds_of words) e
 unfolding kinds_of

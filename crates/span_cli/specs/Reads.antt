@@ -1,12 +1,12 @@
--- Which files are read for what is asked.
+-- Which files are read for a request.
 use Rattle.std.specs.Prelude.{◌≡◌, ℕ, Bool, List, Option, Some, None}
 use Rattle.session.specs.Conversations.{Turn, reads_of}
 use Rattle.sources.specs.Reads.{ReadsAll, ReadsInOrder}
 use Rattle.span_cli.specs.Serving.{Asked, takes_requests, turns_in}
 use Rattle.span_cli.specs.Sessions.{reads_under}
 
--- Exactly what is asked for was read: its files, as `ReadsInOrder` says, and then what the requests of a session ask for, as `ReadsAll`
--- says. If nothing is asked for, nothing was read.
+-- Exactly these files were read: the files of the request, as `ReadsInOrder` says, and then the files that the requests
+-- of a session name, as `ReadsAll` says. Without a request, nothing was read.
 abbrev pub ReadsAsked : {S : Type 0} → (S → List ℕ → Bool → S → Type 0) → S → List Turn → Option Asked → S → Type 0
 ReadsAsked reads old turns None new = new ≡ old
 ReadsAsked {S} reads old turns (Some asked) new =

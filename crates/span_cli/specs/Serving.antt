@@ -1,4 +1,4 @@
--- What is answered to a request.
+-- The answer to a request.
 use Rattle.std.specs.Prelude.{◌≡◌, ℕ, Bool, true, false, List, [], ◌∷◌, ◌++◌, flat_map, codes, Option, Some, None, option_map}
 use Rattle.std.specs.Prelude.{Result, Ok, Err, ⊤}
 use Rattle.std.specs.Option.{option_to_list}
@@ -20,17 +20,17 @@ use Rattle.span_cli.specs.Sessions.{AtEnd, CutOff, Ending, IsConversation, Outsi
 use Rattle.span_cli.specs.declared.serving.Request.{Request}
 use Rattle.span_cli.specs.declared.serving.Request.TheVariants as request
 
--- a status, and the bytes that go to the output and to the error stream
+-- a status, and the bytes for the output and for the error stream
 pub record Answer : Type 0 where
   pub status : ℕ
   pub out : List ℕ
   pub err : List ℕ
 
--- done, with these bytes
+-- success, with these bytes
 abbrev pub done : List ℕ → Answer
 done text = record { status = DONE; out = text; err = [] }
 
--- refused: a status and a line, and nothing on the output
+-- rejected: a status and a line, and nothing on the output
 abbrev pub refused : ℕ → List ℕ → Answer
 refused status line = record { status = status; out = []; err = line }
 
@@ -42,13 +42,13 @@ memory = refused OUT_OF_MEMORY memory_line
 abbrev pub file_line : List ℕ → List ℕ
 file_line name = codes "file: " ++ name ++ codes "\n"
 
--- the answer that the bytes or the fault of a call make
+-- the answer for the bytes or the fault that a call returns
 abbrev pub answer_of : Result (List ℕ) SpanFault → Answer
 answer_of (Ok text) = done text
 answer_of (Err e) = refused (fault_status e) (fault_line e)
 
--- The answer that tells faults: their lines on the output, and the status of the first. Where there is none it is done, with no
--- bytes.
+-- The answer with faults: their lines on the output, and the status of the first fault. Without a fault it is success,
+-- with no bytes.
 abbrev pub answer_of_faults : List SpanFault → Answer
 answer_of_faults faults = record { status = faults_status faults; out = faults_text faults; err = [] }
 
@@ -58,7 +58,7 @@ unread name read.Failed = refused FILE_FAILED (file_line name)
 unread name read.TooLong = refused FILE_FAILED (file_line name)
 unread name read.OutOfMemory = memory
 
--- a command, with its number of workers or with the account, where one alone is asked for
+-- a command, with its number of workers, or with the account if only one is explained
 pub data Command : Type 0 where
   Check : Command
   Plan : Command
@@ -74,16 +74,16 @@ abbrev pub takes_requests : Command → Bool
 takes_requests (Session workers) = true
 takes_requests command = false
 
--- the turns of a session; no other command has any
+-- the turns of a session; no other command has turns
 abbrev pub turns_in : Command → List Turn → List Turn
 turns_in (Session workers) turns = turns
 turns_in command turns = []
 
--- what is asked for: a command, and the names of its files in the order in which they are read
+-- a request: a command, and the names of its files in the order in which they are read
 abbrev pub Asked : Type 0
 Asked = Command × List (List ℕ)
 
--- what a request asks for
+-- the command and the files of a request
 abbrev pub asked_by : Request → Asked
 asked_by (request.Check params) = (Check, params.now ∷ [])
 asked_by (request.Plan params) = (Plan, params.now ∷ [])
@@ -94,15 +94,15 @@ asked_by (request.WhatIf params positions orders workers) = (WhatIf workers, par
 asked_by (request.Faults params positions) = (Faults, params.now ∷ option_to_list (option_map (λ name. name.now) positions))
 asked_by (request.Session params positions workers) = (Session workers, params.now ∷ positions.now ∷ [])
 
--- The answer is one that a roll of these bytes on so many workers may have: that of its text, of the first fault of the
--- files, of memory, of a book or of a shelf that refused.
+-- A roll of these bytes on this many workers may have this answer: its text, the first fault of the files, out of
+-- memory, or a rejection by the result store (book) or the published parameter set (shelf).
 pub record IsOfRoll (workers : ℕ) (params next positions : List ℕ) (answer : Answer) : Type 0 where
   pub given : Result (List ℕ) SpanFault
   pub gives : GivesRoll (λ text. text) workers params next positions given
   pub is : answer ≡ answer_of given
 
--- The answer is the command's for these bytes of its files. With any other number of files there is none, nor is there one of a session,
--- which answers for more than the bytes of its files.
+-- The answer is the command's for these bytes of its files. With any other number of files it has none. A session has
+-- none either, since its answer depends on more than the bytes of its files.
 abbrev pub answered : Command → List (List ℕ) → Answer → Type 0
 answered Check (params ∷ []) answer = answer ≡ answer_of (counts_of params)
 answered Plan (params ∷ []) answer = answer ≡ answer_of (listing_of params)
@@ -115,26 +115,28 @@ answered Faults (params ∷ []) answer = answer ≡ answer_of_faults (faults_of 
 answered Faults (params ∷ positions ∷ []) answer = answer ≡ answer_of_faults (faults_of params (Some positions))
 answered command files answer = ⊥
 
--- The answer of a session that ended so, with the texts of its answers. Where an answer could not be written, a part of these went out.
+-- The answer of a session with this end and these texts. If an answer could not be written, a part of the texts was
+-- written.
 abbrev pub ended_answer : Ending → List (List ℕ) → Answer
 ended_answer AtEnd texts = done (flat_map (λ text. text) texts)
 ended_answer CutOff texts =
     record { status = FILE_FAILED; out = flat_map (λ text. text) texts; err = file_line (codes "input") }
 ended_answer Unwritten texts = done (flat_map (λ text. text) texts)
 
--- The answer is of a session that has these texts, or is refused for its files. One that is refused takes no request.
+-- The answer is the one of a session with these texts, or a rejection of its files. A rejected session takes no
+-- request.
 abbrev pub IsOfSession : Outside → Result (List (List ℕ)) SpanFault → Answer → Type 0
 IsOfSession outside (Ok texts) answer = (ending : Ending) × IsConversation outside ending × (answer ≡ ended_answer ending texts)
 IsOfSession outside (Err e) answer = (outside.turns ≡ []) × (answer ≡ answer_of (Err e))
 
--- the answer is the command's for these bytes of its files and what else it finds
+-- the answer is the command's for these bytes of its files in this environment
 abbrev pub answered_amid : Outside → Command → List (List ℕ) → Answer → Type 0
 answered_amid outside (Session workers) (params ∷ positions ∷ []) answer =
     IsOfSession outside (session_of params positions outside.turns) answer
 answered_amid outside command files answer = answered command files answer
 
--- What becomes of files that are read: the bytes of all; or the answer that names the first that cannot be read; or nothing,
--- where one that is come to is unknown.
+-- The result of reading files: the bytes of all, or the answer that names the first that cannot be read, or nothing if
+-- a file that is reached is unknown.
 abbrev pub Found : Type 0
 Found = Option (Result (List (List ℕ)) Answer)
 
@@ -146,22 +148,22 @@ read_before name (Some (Ok bytes)) None = None
 read_before name (Some (Ok bytes)) (Some (Err refusal)) = Some (Err refusal)
 read_before name (Some (Ok bytes)) (Some (Ok files)) = Some (Ok (bytes ∷ files))
 
--- what becomes of files that are read in their order, as far as the first that cannot be read
+-- the result of reading files in their order, up to the first that cannot be read
 abbrev pub all_read : (List ℕ → Option File) → List (List ℕ) → Found
 all_read file [] = Some (Ok [])
 all_read file (name ∷ names) = read_before name (file name) (all_read file names)
 
--- what becomes of the files that are asked for
+-- the result of reading the files of a request
 abbrev pub found_by : (List ℕ → Option File) → Asked → Found
 found_by file asked = all_read (found_under (takes_requests asked.0) file) asked.1
 
--- The answer is the command's if this became of its files; if that is unknown it may be any. If one of them is not read, no request is
--- taken.
+-- The answer is the command's for this result of reading its files. If the result is unknown, any answer is possible.
+-- If a file cannot be read, no request is taken.
 abbrev pub IsAnswered : Outside → Command → Found → Answer → Type 0
 IsAnswered outside command None answer = ⊤
 IsAnswered outside command (Some (Err refusal)) answer = (outside.turns ≡ []) × (answer ≡ refusal)
 IsAnswered outside command (Some (Ok files)) answer = answered_amid outside command files answer
 
--- the answer is that to what is asked
+-- the answer is an answer to the request
 abbrev pub IsAnswer : Outside → Asked → Answer → Type 0
 IsAnswer outside asked answer = IsAnswered outside asked.0 (found_by outside.file asked) answer

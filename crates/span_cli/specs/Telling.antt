@@ -12,69 +12,71 @@ use Rattle.span_cli.specs.Sessions.{Outside}
 abbrev pub unwritten : Answer
 unwritten = refused FILE_FAILED (file_line (codes "output"))
 
--- what is reported in the end, if a write of the output failed or not
+-- what is reported in the end, depending on whether a write of the output failed
 abbrev pub told : Bool → Answer → Answer
 told failed answer = if failed then unwritten else answer
 
 -- the answer was reported
 pub record Tells (answer : Answer) (given : ℕ) (old_out new_out old_err new_err : Stream) : Type 0 where
-  -- the status is the answer's, or that of an output that could not be written
+  -- the status is the answer's, or 6 if the output could not be written
   pub status : given ≡ (told new_out.failed answer).status
-  -- just the answer's bytes went to the output, unless a write of them failed
+  -- exactly the answer's bytes were written to the output, unless a write of them failed
   pub out : Says old_out new_out answer.out
-  -- just the answer's line, or that of the output, went to the error stream, unless a write of it failed
+  -- exactly the answer's line, or the line of a failed output, was written to the error stream, unless a write of it
+  -- failed
   pub err : Says old_err new_err (told new_out.failed answer).err
-  -- the output fails only for an answer that has nothing for the error stream
+  -- the output fails only for an answer with nothing for the error stream
   pub cause : new_out.failed ≡ true → answer.err ≡ []
 
--- an answer to what is asked was reported
+-- an answer to the request was reported
 pub record TellsAnswer (outside : Outside) (asked : Asked) (given : ℕ) (old_out new_out old_err new_err : Stream)
     : Type 0 where
   pub answer : Answer
   pub is : IsAnswer outside asked answer
   pub told : Tells answer given old_out new_out old_err new_err
 
--- the answer to what is asked was reported, or out of memory, and then no request was taken
+-- an answer to the request was reported, or out of memory before any request of a session was taken
 abbrev pub Serves : Outside → Asked → ℕ → Stream → Stream → Stream → Stream → Type 0
 Serves outside asked given old_out new_out old_err new_err =
     TellsAnswer outside asked given old_out new_out old_err new_err
     ⊎ ((outside.turns ≡ []) × Tells memory given old_out new_out old_err new_err)
 
--- what words ask for was answered, or out of memory was reported; of words that ask for nothing that never holds
+-- the request was answered, or out of memory was reported; false if there is no request
 abbrev pub ServesAsked : Outside → Option Asked → ℕ → Stream → Stream → Stream → Stream → Type 0
 ServesAsked outside None given old_out new_out old_err new_err = ⊥
 ServesAsked outside (Some asked) given old_out new_out old_err new_err = Serves outside asked given old_out new_out old_err new_err
 
--- A mistake of usage was reported: nothing went to the output. The text on the error stream is the reader's of the words.
+-- A usage error was reported, and nothing was written to the output. The text on the error stream is chosen by the
+-- parser of arguments.
 pub record IsMistake (given : ℕ) (old_out new_out : Stream) : Type 0 where
   pub status : given ≡ USAGE
   pub out : new_out ≡ old_out
 
--- Help or the version was shown: nothing went to the error stream, unless the output could not be written. The text on
--- the output is the reader's of the words.
+-- Help or the version was shown. Nothing was written to the error stream, unless the output could not be written. The
+-- text on the output is chosen by the parser of arguments.
 pub record IsShown (given : ℕ) (new_out old_err new_err : Stream) : Type 0 where
   pub status : given ≡ (told new_out.failed (done [])).status
   pub err : Says old_err new_err (told new_out.failed (done [])).err
 
--- what is reported if the words are refused for this kind of reason
+-- what is reported if arguments are rejected for an error of this kind
 abbrev pub RefusesWords : ErrorKind → ℕ → Stream → Stream → Stream → Stream → Type 0
 RefusesWords kind.OutOfMemory given old_out new_out old_err new_err = Tells memory given old_out new_out old_err new_err
 RefusesWords kind.DisplayHelp given old_out new_out old_err new_err = IsShown given new_out old_err new_err
 RefusesWords kind.DisplayVersion given old_out new_out old_err new_err = IsShown given new_out old_err new_err
 RefusesWords other given old_out new_out old_err new_err = IsMistake given old_out new_out
 
--- what is reported if the words may be refused for these kinds of reason, or because memory ran out
+-- what is reported if arguments are rejected for an error of one of these kinds, or because memory ran out
 abbrev pub RefusesWordsBy : Kinds → ℕ → Stream → Stream → Stream → Stream → Type 0
 RefusesWordsBy [] given old_out new_out old_err new_err = Tells memory given old_out new_out old_err new_err
 RefusesWordsBy (k ∷ ks) given old_out new_out old_err new_err =
     RefusesWords k given old_out new_out old_err new_err ⊎ RefusesWordsBy ks given old_out new_out old_err new_err
 
--- What is reported of words that may be refused for these kinds of reason: if there is none, their request is answered.
+-- What is reported for arguments with these kinds of error. Without a kind, their request is answered.
 abbrev pub AnswersWords : Kinds → Type 0 → ℕ → Stream → Stream → Stream → Stream → Type 0
 AnswersWords [] answered given old_out new_out old_err new_err = answered
 AnswersWords (k ∷ ks) answered given old_out new_out old_err new_err =
     RefusesWordsBy (k ∷ ks) given old_out new_out old_err new_err
 
--- the line for words that are no text
+-- the line for an argument that is not UTF-8
 abbrev pub no_text_line : List ℕ
 no_text_line = codes "error: a word of the command line is not UTF-8\n"

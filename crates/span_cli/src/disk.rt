@@ -1,4 +1,4 @@
-//! Files of the system.
+//! Files of the operating system.
 ghost use Rattle.span_cli.specs.Disk.{IsOpened};
 ghost use Rattle.sources.specs.declared.TheConstants.{FILE_CAP};
 ghost use Rattle.span_tables.specs.Names.{is_among};
@@ -13,7 +13,7 @@ use std::io;
 use std::io::Read;
 use std::rt::Files;
 
-/// Something that opens files by their names, as each runtime with [`Files`] does.
+/// Something that opens files by name, such as each runtime with [`Files`].
 pub trait OpenByName {
     ghost use Rattle.std.specs.Prelude.{IfOk, List, ℕ};
     ghost use Rattle.std.specs.declared.fs.attrs.Metadata.{Metadata};
@@ -21,11 +21,11 @@ pub trait OpenByName {
     /// An open file.
     type File: Read + Drop;
 
-    // That the file of a name was opened, and what its metadata are. Code that is generic over this trait knows it by a call of
-    // `open_by_name` alone.
+    // The file of a name was opened, and has this metadata. Code that is generic over this trait knows it only from a
+    // call of `open_by_name`.
     ghost opens: { Self → List ℕ → Self.File → Metadata → Type 0 } = { λ _ _ _ _. Unit {0} };
 
-    /// Opens the file of a name for reading, and asks for its metadata.
+    /// Opens the file of a name for reading, and returns it with its metadata.
     fn open_by_name(&self, name: &str) -> io::Result<(Self::File, Metadata)>
         ensures { IfOk result (λ opened. opens self.now name.now opened.0 opened.1) };
 }
@@ -42,7 +42,8 @@ impl<R: Files> OpenByName for R {
 
 /// The files of a runtime.
 ///
-/// A stream, such as a pipe, gives its bytes once. So the names of those that were read are kept, and none is read a second time.
+/// A stream, such as a pipe, can be read only once. So the names of streams that were read are kept, and none is read a
+/// second time.
 #[derive(Drop)]
 pub struct Disk<'a, R: OpenByName> {
     rt: &'a R,
@@ -50,7 +51,7 @@ pub struct Disk<'a, R: OpenByName> {
 }
 
 impl<'a, R: OpenByName> Disk<'a, R> {
-    /// The files that this runtime opens by their names.
+    /// Returns the files that this runtime opens by name.
     pub fn new(alloc: Global, rt: &'a R) -> Disk<'a, R>
         ensures { result.streams ≡ [] }
     {
@@ -60,7 +61,8 @@ impl<'a, R: OpenByName> Disk<'a, R> {
         }
     }
 
-    // Opens the file of a name, unless it is a stream that was read, and keeps the name of a stream. The metadata say which it is.
+    // Opens the file of a name, unless it is a stream that was read. Keeps the name if the metadata say that it is a
+    // stream.
     fn open(&mut self, alloc: Global, name: &str) -> Result<R::File, ReadFault>
         ensures once { is_among self.old.streams name.now ≡ true → result ≡ Err ReadFault.Failed }
         ensures opened { IfOk result (λ opened. IsOpened (R.opens self.old.rt.now name.now)
@@ -80,12 +82,12 @@ impl<'a, R: OpenByName> Disk<'a, R> {
 }
 
 impl<'a, R: OpenByName> Sources for Disk<'a, R> {
-    /// The bytes of the file of a name. The name of a stream is kept when the stream is opened, also if reading it then fails; a name that
-    /// was kept is refused as one that cannot be read.
+    /// Returns the bytes of the file of a name. The name of a stream is kept when the stream is opened, even if reading
+    /// it then fails. A name that was kept fails as a file that cannot be read.
     fn read(&mut self, alloc: Global, name: &str) -> Result<Vec<u8>, ReadFault>
         ensures once { is_among self.old.streams name.now ≡ true → result ≡ Err ReadFault.Failed }
         ensures kept { (self.new.streams ≡ self.old.streams) ⊎ (self.new.streams ≡ self.old.streams ++ name.now ∷ []) }
-        // What is read of the file that was opened, as `read_file` has it.
+        // The bytes of the file that was opened are read as `read_file` says.
         ensures whole { IfOk result (λ bytes. IsOpened (R.opens self.old.rt.now name.now) self.old.streams name.now self.new.streams
             (λ file. IfSome (R.File.remaining file) (λ all. bytes.items ≡ all))) }
         ensures within { IfOk result (λ bytes. vec_len bytes ≤ FILE_CAP) }

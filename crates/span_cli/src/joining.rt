@@ -1,4 +1,4 @@
-//! The word behind `--account` is its value, also where it begins with `-`.
+//! Joins `--account` with the argument after it, which is its value even if it begins with `-`.
 ghost use Rattle.clap.specs.Words.{Text};
 ghost use Rattle.span_cli.specs.Words.{joined_words};
 ghost use Rattle.span_cli.specs.near.NextWords.{rest_of};
@@ -7,20 +7,20 @@ ghost use Rattle.std.specs.Prelude.{[], ◌∷◌, ◌≡◌, ◌++◌, IfOk, Li
 use std::alloc::{AllocError, Global};
 use std::convert::AsStr;
 
-// What the next word may be.
+// What the next argument may be.
 #[derive(Clone, Copy)]
 enum NextWord {
-    // The program's name, which is the first word.
+    // The program's name, which is the first argument.
     Program,
-    // Any word.
+    // Any argument.
     Any,
-    // The value of `--account`, which was the word before.
+    // The value of `--account`, which was the argument before.
     Value,
-    // A word that stands as it is, as all words behind a `--` do.
+    // An argument that stays as it is, like all arguments after a `--`.
     Plain,
 }
 
-// One word of `--account` and its value.
+// One argument of `--account` and its value.
 fn with_value(alloc: Global, value: &str) -> Result<String, AllocError>
     ensures { IfOk result (λ word. string_bytes word ≡ codes "--account=" ++ value.now) }
 {
@@ -29,7 +29,7 @@ fn with_value(alloc: Global, value: &str) -> Result<String, AllocError>
     Ok(word)
 }
 
-// Appends a word where any may stand, and gives what the word behind it may be.
+// Appends an argument that may be anything, and returns what the argument after it may be.
 fn push_any(alloc: Global, joined: &mut Vec<String>, word: &str) -> Result<NextWord, AllocError>
     ensures { (words : List Text) → IfOk result (λ after. map string_bytes joined.new.items ++ rest_of after words
         ≡ map string_bytes joined.old.items ++ rest_of NextWord.Any (word.now ∷ words)) }
@@ -44,7 +44,7 @@ fn push_any(alloc: Global, joined: &mut Vec<String>, word: &str) -> Result<NextW
     Ok(NextWord::Any)
 }
 
-// Appends what is made of the next word, by what that may be, and gives what the word behind it may be.
+// Appends the next argument in its joined form, and returns what the argument after it may be.
 fn push_word(
     alloc: Global,
     joined: &mut Vec<String>,
@@ -71,7 +71,7 @@ fn push_word(
     }
 }
 
-// Appends what is still to be said behind the last word.
+// Appends what remains after the last argument: an `--account` without a value.
 fn push_end(alloc: Global, joined: &mut Vec<String>, next: NextWord) -> Result<(), AllocError>
     ensures { OnOk result (map string_bytes joined.new.items ≡ map string_bytes joined.old.items ++ rest_of next []) }
 {
@@ -84,7 +84,7 @@ fn push_end(alloc: Global, joined: &mut Vec<String>, next: NextWord) -> Result<(
     Ok(())
 }
 
-/// The words, where each `--account` up to a `--` is one word with the word behind it.
+/// Returns the arguments, with each `--account` that comes before a `--` joined with the argument after it.
 pub(crate) fn join_words<S: AsStr>(alloc: Global, words: &[S]) -> Result<Vec<String>, AllocError>
     ensures { IfOk result (λ joined. map string_bytes joined.items ≡ joined_words (map S.text words.now)) }
 {

@@ -1,4 +1,4 @@
-//! The commands of the program `span`: files in, bytes and a status out.
+//! The commands of the program `span`: from files to output and an exit status.
 #![tactic(auto)]
 
 pub mod disk;

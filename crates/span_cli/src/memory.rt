@@ -5,7 +5,7 @@ ghost use Rattle.span_cli.specs.near.Memory.{bytes_in};
 use sources::{FILE_CAP, ReadFault, Sources};
 use std::alloc::Global;
 
-/// Names, each with the bytes of its file.
+/// File names, each with the bytes of its file.
 #[derive(Clone, Copy)]
 pub struct InMemory<'a> {
     pub files: &'a [(&'a str, &'a [u8])],

@@ -1,4 +1,4 @@
-//! Reading to the end, within a limit.
+//! Reads a file to its end, up to a limit.
 ghost use Rattle.sources.specs.declared.TheConstants.{FILE_CAP};
 ghost use Rattle.std.specs.Io.KnownBytes.{IsAtEnd, ReadConsumes};
 ghost use Rattle.std.specs.Io.{ReadsAtMost};
@@ -12,14 +12,14 @@ use std::io;
 use std::io::{ErrorKind, Read};
 use std::marker::Model;
 
-// How many bytes a turn asks for.
+// The number of bytes that a turn asks for.
 const PIECE: usize = 65_536;
 
-// How many turns a reading of a file has: one for each byte that it may have, and one for its end.
+// The number of turns for reading a file: one for each byte that it may have, and one for its end.
 const MAX_TURNS: u32 = FILE_CAP as u32 + 1;
 
-/// A reader that gives so many turns, and remembers whether one of them failed. A turn that was interrupted has not
-/// failed.
+/// A reader with a limited number of turns. It remembers whether one of them failed; an interrupted turn is not a
+/// failure.
 #[derive(Drop)]
 pub struct Turns<R: Read> {
     reader: R,
@@ -36,7 +36,7 @@ impl<R: Read> Model for Turns<R> {
 }
 
 impl<R: Read> Turns<R> {
-    /// So many turns of a reader.
+    /// Returns a reader with this number of turns.
     pub fn new(reader: R, turns: u32) -> Turns<R>
         ensures bytes { result.bytes ≡ R.remaining reader }
         ensures turns { result.turns ≡ turns }
@@ -49,14 +49,14 @@ impl<R: Read> Turns<R> {
         }
     }
 
-    /// Whether a turn failed.
+    /// Returns whether a turn failed.
     pub fn failed(&self) -> bool
         ensures { result ≡ self.now.failed }
     {
         self.failed
     }
 
-    /// How many turns are left.
+    /// Returns the number of turns left.
     pub fn left(&self) -> u32
         ensures { result ≡ self.now.turns }
     {
@@ -88,14 +88,14 @@ impl<R: Read> Turns<R> {
     }
 }
 
-// So many zeros.
+// This number of zeros.
 fn zeros(alloc: Global, count: usize) -> Result<Vec<u8>, AllocError>
     ensures { IfOk result (λ zeros. vec_len zeros ≡ count) }
 {
     vec![in alloc; 0u8; count]
 }
 
-// The bytes of a reader, at most `cap` of them, read by pieces into a buffer.
+// The bytes of a reader, at most `cap`, read in pieces through a buffer.
 fn read_pieces<R: Read>(
     alloc: Global,
     reader: &mut Turns<R>,
@@ -132,8 +132,8 @@ fn read_pieces<R: Read>(
     Err(ReadFault::Failed)
 }
 
-/// The bytes of a reader, at most `cap` of them. A reader that comes to no end within its turns has failed; it has to
-/// have a turn for each of the bytes and one for the end.
+/// Returns the bytes of a reader, at most `cap`. A reader that has not ended when its turns are used up has failed. It
+/// must have a turn for each of the bytes and one for the end.
 pub fn read_within<R: Read>(
     alloc: Global,
     reader: &mut Turns<R>,
@@ -147,7 +147,7 @@ pub fn read_within<R: Read>(
     ensures read { OnOk result (reader.new.failed ≡ false) }
 
     ensures too_long { result ≡ Err ReadFault.TooLong → IfSome reader.old.bytes (λ all. cap < length all) }
-    // Out of memory is no failure, and neither is a turn that was interrupted.
+    // Running out of memory is not a failure of the reader, and neither is an interrupted turn.
     ensures failed { result ≡ Err ReadFault.Failed → (reader.new.failed ≡ true) ⊎ (reader.new.turns ≡ 0) }
 {
     match zeros(alloc, PIECE) {
@@ -156,7 +156,7 @@ pub fn read_within<R: Read>(
     }
 }
 
-/// The bytes of a file, of which there are at most `FILE_CAP`. One that has more is too long.
+/// Returns the bytes of a file, at most `FILE_CAP`. A longer file is too long.
 pub fn read_file<R: Read + Drop>(alloc: Global, reader: R) -> Result<Vec<u8>, ReadFault>
     ensures whole { IfOk result (λ bytes. IfSome (R.remaining reader) (λ all. bytes.items ≡ all)) }
     ensures within { IfOk result (λ bytes. vec_len bytes ≤ FILE_CAP) }

@@ -1,4 +1,4 @@
-//! Requests, and the bytes that answer them.
+//! Requests, and what is written for each.
 ghost use Rattle.session.specs.Answers.{is_stdin};
 ghost use Rattle.session.specs.Conversations.{AreFromSource, Turn, opening_text};
 ghost use Rattle.sources.specs.Reads.{ReadsInOrder};
@@ -39,13 +39,13 @@ use whatif::trying::whatif;
 use worker_pool::gates::Gate;
 use writers::marked_writer::MarkedWriter;
 
-/// The file that is the stream of requests in a session.
+/// The name of the file that is the stream of requests in a session.
 const STDIN: &str = "/dev/stdin";
 
-/// What the program is asked for, with the names of its files.
+/// A request to the program, with the names of its files.
 #[derive(Debug, Drop)]
 pub enum Request<'a> {
-    /// The counts of a parameter file by itself.
+    /// The counts of a parameter file.
     Check {
         params: &'a str,
     },
@@ -53,38 +53,40 @@ pub enum Request<'a> {
     Plan {
         params: &'a str,
     },
-    /// The statement of a position file under a parameter file, on so many workers, 1 to 16.
+    /// The statement of a position file under a parameter file, computed by 1 to 16 workers.
     Margin {
         params: &'a str,
         positions: &'a str,
         workers: usize,
     },
-    /// Why each figure of a statement is what it is, of all accounts or of one alone.
+    /// The statement with the reasons for every figure, for all accounts or for one.
     Explain {
         params: &'a str,
         positions: &'a str,
         account: Option<Name>,
     },
-    /// The statement of a position file under a parameter file, and after it that under the next, on so many workers.
+    /// The statement of a position file under a parameter file, then its statement under the next, computed by 1 to 16
+    /// workers.
     Roll {
         params: &'a str,
         next: &'a str,
         positions: &'a str,
         workers: usize,
     },
-    /// What each order of a file would do to the margin of its account, on so many workers.
+    /// What each order of a file would do to the margin of its account, computed by 1 to 16 workers.
     WhatIf {
         params: &'a str,
         positions: &'a str,
         orders: &'a str,
         workers: usize,
     },
-    /// All faults of a parameter file, and of a position file beside it, if one is given.
+    /// All faults of a parameter file, and of a position file if there is one.
     Faults {
         params: &'a str,
         positions: Option<&'a str>,
     },
-    /// The answers to requests about the accounts of a position file under a parameter file. So many workers share all accounts.
+    /// The answers to requests about the accounts of a position file under a parameter file. A request for all accounts
+    /// is shared by 1 to 16 workers.
     Session {
         params: &'a str,
         positions: &'a str,
@@ -92,7 +94,7 @@ pub enum Request<'a> {
     },
 }
 
-// Names, of which there are at most three.
+// A list of at most three names.
 fn listed<'a>(names: &[&'a str]) -> ArrayVec<&'a str, 3>
     requires { length names.now ≤ 3 }
     ensures { result.items ≡ names.now }
@@ -101,7 +103,7 @@ fn listed<'a>(names: &[&'a str]) -> ArrayVec<&'a str, 3>
 }
 
 impl<'a> Request<'a> {
-    // The names of its files, in the order in which they are read.
+    // The names of the request's files, in the order in which they are read.
     fn files(&self) -> ArrayVec<&'a str, 3>
         ensures { map (λ name. name.now) result.items ≡ (asked_by self.now).1 }
     {
@@ -146,7 +148,7 @@ impl<'a> Request<'a> {
         }
     }
 
-    // Whether it reads requests from the input.
+    // Whether the request reads more requests from the input.
     fn takes_requests(&self) -> bool
         ensures { result ≡ takes_requests (asked_by self.now).0 }
     {
@@ -154,7 +156,7 @@ impl<'a> Request<'a> {
     }
 }
 
-// Why a request is refused.
+// Why a request is rejected.
 #[derive(Debug, Drop)]
 enum Refusal<'a> {
     // A file that cannot be read, or is too long.
@@ -171,7 +173,7 @@ impl<'a> From<SpanFault> for Refusal<'a> {
     }
 }
 
-// Whether a file is the stream of requests, from which a session reads.
+// Whether a file is the stream from which a session reads its requests.
 fn is_requests(is_session: bool, name: &str) -> bool
     ensures { result ≡ (is_session && is_stdin name.now) }
 {
@@ -200,7 +202,7 @@ fn load<'a, S: Sources>(
     }
 }
 
-// The files of these names, read in their order as far as the first that cannot be read.
+// The files of these names, read in their order up to the first that cannot be read.
 fn load_all<'a, S: Sources>(
     alloc: Global,
     sources: &mut S,
@@ -221,7 +223,7 @@ fn load_all<'a, S: Sources>(
     Ok(files)
 }
 
-// What a request is lent: a runtime, an allocator, and the gate that workers pass.
+// What all requests share: a runtime, an allocator, and the gate that workers pass.
 #[derive(Drop)]
 pub(crate) struct ServingMeans<'a, R, G: Gate> {
     pub(crate) rt: &'a R,
@@ -229,30 +231,30 @@ pub(crate) struct ServingMeans<'a, R, G: Gate> {
     pub(crate) gate: &'a G,
 }
 
-// What a request gives: the bytes for the output, and the status.
+// The result of a request: the bytes for the output, and the status.
 #[derive(Drop)]
 struct Given {
     text: Vec<u8>,
     status: u8,
 }
 
-// What comes of a request.
+// The outcome of a request.
 #[derive(Drop)]
 enum Outcome {
-    // What it gives.
+    // The result of a request that is answered at once.
     Answer(Given),
-    // A session that is open, and its number of workers.
+    // An open session, and its number of workers.
     Session(Opened, usize),
 }
 
-// Bytes with the status of work that is done.
+// These bytes with the status of success.
 fn done(text: Vec<u8>) -> Given
     ensures { given_answer result ≡ done text.items }
 {
     Given { text, status: DONE }
 }
 
-// The lines of all faults of these bytes, with the status of the first.
+// The lines of all faults of these bytes, with the status of the first fault.
 fn faults_told(alloc: Global, params: &[u8], positions: Option<&[u8]>) -> Result<Given, AllocError>
     ensures { IfOk result (λ given. given_answer given
         ≡ answer_of_faults (faults_of params.now (option_map (λ bytes. bytes.now) positions.entry))) }
@@ -264,7 +266,7 @@ fn faults_told(alloc: Global, params: &[u8], positions: Option<&[u8]>) -> Result
     })
 }
 
-// What a roll of these bytes gives. The book of its two batches is a new one, which nobody reads.
+// The result of a roll of these bytes. Its result store (book) is new and is read by nobody.
 fn rolled<R: Threads + Wait + Clock + Sync, G: Gate>(
     lent: &ServingMeans<'_, R, G>,
     params: &[u8],
@@ -280,7 +282,7 @@ fn rolled<R: Threads + Wait + Clock + Sync, G: Gate>(
     )
 }
 
-// What comes of a request for the bytes of its files.
+// The outcome of a request for the bytes of its files.
 fn answer<R: Threads + Wait + Clock + Sync, G: Gate>(
     lent: &ServingMeans<'_, R, G>,
     request: &Request<'_>,
@@ -327,7 +329,7 @@ fn answer<R: Threads + Wait + Clock + Sync, G: Gate>(
     }
 }
 
-// What comes of a request.
+// The outcome of a request.
 fn run<'a, S: Sources, R: Threads + Wait + Clock + Sync, G: Gate>(
     lent: &ServingMeans<'_, R, G>,
     request: &Request<'a>,
@@ -349,7 +351,7 @@ fn run<'a, S: Sources, R: Threads + Wait + Clock + Sync, G: Gate>(
     Ok(outcome)
 }
 
-// The status of a refusal.
+// The status of a rejection.
 fn refusal_status(refusal: &Refusal<'_>) -> u8
     ensures { result ≡ refusal_status refusal.now }
 {
@@ -359,7 +361,7 @@ fn refusal_status(refusal: &Refusal<'_>) -> u8
     }
 }
 
-// Writes the line of a refusal.
+// Writes the line of a rejection.
 fn tell_refusal<E: Write>(refusal: &Refusal<'_>, err: &mut MarkedWriter<E>)
     ensures { Says err.old err.new (refusal_line refusal.now) }
 {
@@ -371,7 +373,7 @@ fn tell_refusal<E: Write>(refusal: &Refusal<'_>, err: &mut MarkedWriter<E>)
     }
 }
 
-// Writes the line of a refusal and gives its status.
+// Writes the line of a rejection and returns its status.
 fn refuse<E: Write>(refusal: Refusal<'_>, err: &mut MarkedWriter<E>) -> u8
     ensures status { result ≡ refusal_status refusal.entry }
     ensures line { Says err.old err.new (refusal_line refusal.entry) }
@@ -380,7 +382,7 @@ fn refuse<E: Write>(refusal: Refusal<'_>, err: &mut MarkedWriter<E>) -> u8
     refusal_status(&refusal)
 }
 
-// Writes what a request gave, or says that it cannot be written, and gives the status.
+// Writes the result of a request, or reports that it cannot be written, and returns the status.
 fn give<W: Write, E: Write>(
     given: Given,
     out: &mut MarkedWriter<W>,
@@ -398,7 +400,7 @@ fn give<W: Write, E: Write>(
     }
 }
 
-// Serves a session that is open over the requests of an input, on so many workers, and gives the status.
+// Serves an open session over the requests of an input, on this number of workers, and returns the status.
 fn converse<
     I: Read + Drop,
     S: Sources,
@@ -427,15 +429,18 @@ fn converse<
     }
 }
 
-/// Answers a request and gives the status. Its files are read each once and in their order, as far as the first that cannot be
-/// read, which is named, whatever those behind it are. Where no write fails, just the bytes of the answer go to each stream and the
-/// status is the answer's; where a write of the output fails, the status is that of a file that failed and the line on `err` is
-/// `file: output`; where a write of the line fails, the status stands. To `out` no write may have failed before. The workers of a
-/// statement pass the gate before each step.
+/// Answers a request and returns the status. Its files are read once each, in their order. If one cannot be read,
+/// reading stops and the line names it.
 ///
-/// A session reads requests from `input` once its two files are accepted; nothing else reads it. The turns in the contract are its requests
-/// with what happened while they were answered. The bytes on `out` are the answers to them, to the end of the input. If a read of the input
-/// fails, the answers so far stay, the status is that of a file that failed, and the line is `file: input`.
+/// If no write fails, exactly the bytes of the answer are written to each stream, and the status is the answer's. If a
+/// write of the output fails, the status is 6 and the line on `err` is `file: output`. If a write of the line fails,
+/// the status does not change. No write to `out` may have failed before. The workers of a statement pass the gate
+/// before each step.
+///
+/// A session reads requests from `input` after its two files are accepted. Nothing else reads it. The turns in the
+/// contract are the requests, with what happened while they were answered. The bytes on `out` are the answers to them,
+/// to the end of the input. If a read of the input fails, the answers so far stay, the status is 6, and the line is
+/// `file: input`.
 pub fn serve<
     S: Sources,
     I: Read + Drop,

@@ -1,4 +1,4 @@
-//! Sessions over an input and an output.
+//! Serves sessions over an input and an output.
 ghost use Rattle.desks.specs.near.Intakes.{IsFresh};
 ghost use Rattle.session.specs.Conversations.{AreFromSource, Turn, opening_text};
 ghost use Rattle.span_cli.specs.Serving.{ended_answer};
@@ -21,7 +21,7 @@ use std::time::Clock;
 use worker_pool::gates::Gate;
 use writers::marked_writer::MarkedWriter;
 
-// Names the stream that failed, if one did, and gives the status.
+// Writes the name of the stream that failed, if one did, and returns the status.
 fn tell_end<E: Write>(
     served: Result<(), DeskFault>,
     is_unwritten: bool,
@@ -43,7 +43,8 @@ fn tell_end<E: Write>(
     }
 }
 
-/// Answers these requests from the first on, and gives the status. Each answer is written and flushed before the next request is taken.
+/// Answers these requests, beginning with the first, and returns the status. Each answer is written and flushed before
+/// the next request is taken.
 pub(crate) fn serve_session<
     I: Read + Drop,
     S: Sources,

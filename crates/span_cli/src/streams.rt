@@ -1,4 +1,4 @@
-//! Streams, each of which is read once.
+//! The names of streams, so that each stream is read only once.
 ghost use Rattle.span_tables.specs.Names.{is_among};
 ghost use Rattle.std.specs.Fs.{IsFile, file_type};
 ghost use Rattle.std.specs.Prelude.{[], ◌∷◌, ◌≡◌, ◌++◌, IfErr, List, OnOk, map, not, string_bytes, ℕ};
@@ -8,7 +8,8 @@ use std::alloc::Global;
 use std::fs::Metadata;
 use std::marker::Model;
 
-/// The names of the streams that were read. A stream, as a pipe, gives its bytes once, so that none is read a second time.
+/// The names of the streams that were read. A stream, such as a pipe, can be read only once, so none is read a second
+/// time.
 #[derive(Drop)]
 pub struct Streams {
     names: Vec<String>,
@@ -33,7 +34,7 @@ fn has_name(names: &[String], name: &str) -> bool
 }
 
 impl Streams {
-    /// No streams.
+    /// Returns an empty list of streams.
     pub fn new(alloc: Global) -> Streams
         ensures { result ≡ [] }
     {
@@ -42,7 +43,7 @@ impl Streams {
         }
     }
 
-    /// Whether the file of a name may be read: unless it is a stream that was read.
+    /// Returns whether the file of a name may be read, that is, whether it is not a stream that was read.
     pub fn may_read(&self, name: &str) -> bool
         ensures { result ≡ not (is_among self.now name.now) }
     {
@@ -59,7 +60,7 @@ impl Streams {
         self.names.push(name).map_err(|_| ReadFault::OutOfMemory)
     }
 
-    /// Keeps the name of what is about to be read, if that is a stream and no file of a known length.
+    /// Keeps a name that is about to be read, if it is the name of a stream and not of a regular file.
     pub fn keep_unless_file(
         &mut self,
         alloc: Global,

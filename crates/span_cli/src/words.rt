@@ -1,4 +1,4 @@
-//! The words of a command line.
+//! Parses the arguments of a command line, and answers them.
 ghost use Rattle.clap.specs.Words.{FailsBy, app_of, first_of, found_of, kind_of, new_app, rows_of, rule_of};
 ghost use Rattle.clap.specs.Words.{subcommand_of, subcommand_rows_of, with_rule, with_subcommand};
 ghost use Rattle.clap.specs.declared.builder.command.Command.TheViews.{out-Command as fields_of};
@@ -37,7 +37,7 @@ use worker_pool::batch::MAX_WORKERS;
 use worker_pool::gates::Gate;
 use writers::marked_writer::MarkedWriter;
 
-/// The program's version, and the profiles of the method that it follows (docs/METHOD.md).
+/// The program's version, and the profiles of the method that it supports (docs/METHOD.md).
 const VERSION: &str = "1.3.0 (profile 1 and profile 2)";
 
 const SPAN_MORE: &str = "\
@@ -68,7 +68,7 @@ const BAD_ACCOUNT: &str =
 
 const WORKERS_HELP: &str = "Worker threads, 1 to 16; use at most the number of processors";
 
-// What the name of a file is called, with its help, and whether it has to be given.
+// The argument for a file: its name and help text, and whether it is required.
 #[derive(Clone, Copy)]
 struct FileArg {
     id: &'static str,
@@ -76,16 +76,16 @@ struct FileArg {
     required: bool,
 }
 
-// An option, which need not be given.
+// An option of a command.
 #[derive(Clone, Copy)]
 enum OptionArg {
-    // How many workers share the accounts.
+    // The number of workers that share the accounts.
     Workers,
-    // The one account that is explained.
+    // The account to explain.
     Account,
 }
 
-// A command: what is said of it in help, its files in their order, and its option.
+// A command: its help texts, its files in their order, and its option.
 #[derive(Clone, Copy)]
 struct CommandRow {
     name: &'static str,
@@ -354,10 +354,10 @@ See `man span` for the records and the faults.",
     option: None,
 };
 
-// The commands, as help lists them.
+// The commands, in the order of the help text.
 const COMMANDS: [CommandRow; 8] = [MARGIN, EXPLAIN, WHAT_IF, SESSION, ROLL, FAULTS, CHECK, PLAN];
 
-// A file's name.
+// The argument for a file.
 fn file_arg<'a>(alloc: Global, file: &FileArg) -> Arg<'a>
     ensures rule { rule_of result ≡ file_rule_of file.now }
     ensures local { result.global ≡ false }
@@ -367,7 +367,7 @@ fn file_arg<'a>(alloc: Global, file: &FileArg) -> Arg<'a>
         .help(file.help)
 }
 
-// The number of workers, which need not be given.
+// The option for the number of workers.
 fn workers<'a>(alloc: Global) -> Arg<'a>
     ensures rule { rule_of result ≡ workers_rule }
     ensures local { result.global ≡ false }
@@ -380,7 +380,7 @@ fn workers<'a>(alloc: Global) -> Arg<'a>
         .help(WORKERS_HELP)
 }
 
-// The account, which need not be given.
+// The option for the account.
 fn account<'a>(alloc: Global) -> Arg<'a>
     ensures rule { rule_of result ≡ account_rule }
     ensures local { result.global ≡ false }
@@ -391,7 +391,7 @@ fn account<'a>(alloc: Global) -> Arg<'a>
         .help(ACCOUNT_HELP)
 }
 
-// A command with one argument more.
+// A command with one more argument.
 fn with_arg<'a>(command: Command<'a>, arg: Arg<'a>) -> Result<Command<'a>, AllocError>
     requires command { (fields_of command).has_globals ≡ false }
     requires arg { arg.global ≡ false }
@@ -402,7 +402,7 @@ fn with_arg<'a>(command: Command<'a>, arg: Arg<'a>) -> Result<Command<'a>, Alloc
     Ok(command)
 }
 
-// The program with one command more.
+// The program with one more command.
 fn with_command<'a>(program: Command<'a>, command: Command<'a>) -> Result<Command<'a>, AllocError>
     requires { (fields_of command).has_globals ≡ false }
     ensures { IfOk result (λ p. app_of p ≡ with_subcommand (app_of program.entry) (app_of command.entry).top) }
@@ -422,7 +422,7 @@ fn option_arg<'a>(alloc: Global, option: OptionArg) -> Arg<'a>
     }
 }
 
-// A command with the names of its files.
+// A command with the arguments for its files.
 fn with_files<'a>(alloc: Global, row: &CommandRow) -> Result<Command<'a>, AllocError>
     ensures shape { IfOk result (λ c. app_of c
         ≡ with_rules (new_app row.now.name.now) (map file_rule_of row.now.files.now)) }
@@ -500,7 +500,7 @@ fn workers_asked(matches: &ArgMatches<'_>) -> Option<usize>
     number(text(matches, "workers")?)
 }
 
-// The account that is asked for, if one is; `None` where what is given is no name.
+// The account in the arguments, if there is one; `None` if it is not a valid name.
 fn account_asked(matches: &ArgMatches<'_>) -> Option<Option<Name>>
     ensures { result ≡ account_in (rows_of (found_of matches.now)) }
 {
@@ -510,7 +510,7 @@ fn account_asked(matches: &ArgMatches<'_>) -> Option<Option<Name>>
     }
 }
 
-// What a command of this name asks for.
+// The request that a command of this name makes.
 #[tactic(auto, using(crate::proofs::WordsLaws::without_params))]
 fn request_under<'a>(name: &str, matches: &ArgMatches<'a>) -> Option<Request<'a>>
     ensures { option_map asked_by result ≡ asked_among commands name.now (rows_of (found_of matches.now)) }
@@ -555,7 +555,7 @@ fn request_under<'a>(name: &str, matches: &ArgMatches<'a>) -> Option<Request<'a>
     }
 }
 
-// What the matches ask for, if anything.
+// The request that the matches make, if they make one.
 fn request_of<'a>(matches: &ArgMatches<'a>) -> Option<Request<'a>>
     ensures { option_map asked_by result
         ≡ option_and_then (λ p. asked_among commands p.0 p.1) (subcommand_rows_of matches.now) }
@@ -564,7 +564,7 @@ fn request_of<'a>(matches: &ArgMatches<'a>) -> Option<Request<'a>>
     request_under(name, found)
 }
 
-// What is said of an account that is no name, with the usage of `explain`.
+// The usage error for an account that is not a valid name, with the usage of `explain`.
 fn misnamed(alloc: Global) -> Result<Error, AllocError>
     ensures { IfOk result (λ e. kind_of e ≡ ErrorKind.ValueValidation) }
 {
@@ -572,7 +572,7 @@ fn misnamed(alloc: Global) -> Result<Error, AllocError>
     command.error(ErrorKind::ValueValidation, BAD_ACCOUNT)
 }
 
-// What is said of an account that is no name, or out of memory.
+// The usage error for an account that is not a valid name, or out of memory.
 fn refuse_account(alloc: Global) -> Error
     ensures { (kind_of result ≡ ErrorKind.OutOfMemory) ⊎ (kind_of result ≡ ErrorKind.ValueValidation) }
 {
@@ -582,7 +582,7 @@ fn refuse_account(alloc: Global) -> Error
     }
 }
 
-// The matches of the words.
+// The matches of the arguments.
 fn parse<'a, S: AsStr>(alloc: Global, words: &'a [S]) -> Result<ArgMatches<'a>, Error>
     ensures ok { IfOk result (λ m. subcommand_rows_of m ≡ subcommand_of span_app (map S.text words.entry.now)) }
     ensures kinds { FailsBy (form_kinds (map S.text words.entry.now)) result }
@@ -591,7 +591,7 @@ fn parse<'a, S: AsStr>(alloc: Global, words: &'a [S]) -> Result<ArgMatches<'a>, 
     command.try_get_matches_from(words)
 }
 
-/// What the words ask for, of which the first is the program's name. An account and its option are one word.
+/// Returns the request of these arguments. The first is the program's name. An account and its option are one argument.
 pub fn request<'a, S: AsStr>(alloc: Global, words: &'a [S]) -> Result<Request<'a>, Error>
     ensures ok { IfOk result (λ request. asked_in (map S.text words.entry.now) ≡ Some (asked_by request)) }
     ensures err { IfErr result (λ e. is_request (map S.text words.entry.now) ≡ true → kind_of e ≡ ErrorKind.OutOfMemory) }
@@ -600,12 +600,12 @@ pub fn request<'a, S: AsStr>(alloc: Global, words: &'a [S]) -> Result<Request<'a
     let matches = parse(alloc, words)?;
     match request_of(&matches) {
         Some(request) => Ok(request),
-        // `clap` has checked all else, so this is an account that is no name.
+        // `clap` has checked everything else, so the account is not a valid name.
         None => Err(refuse_account(alloc)),
     }
 }
 
-// Shows help or the version, and gives the status.
+// Shows help or the version, and returns the status.
 fn show<W: Write, E: Write>(
     error: &Error,
     out: &mut MarkedWriter<W>,
@@ -623,7 +623,7 @@ fn show<W: Write, E: Write>(
     }
 }
 
-// Says what is wrong with the words, and gives the status.
+// Writes a usage error, and returns the status.
 fn say_mistake<E: Write>(error: &Error, err: &mut MarkedWriter<E>) -> u8
     ensures { result ≡ USAGE }
 {
@@ -631,7 +631,7 @@ fn say_mistake<E: Write>(error: &Error, err: &mut MarkedWriter<E>) -> u8
     USAGE
 }
 
-// Tells out of memory in reading the words, and gives the status.
+// Reports that memory ran out while the arguments were parsed, and returns the status.
 fn give_up<E: Write>(err: &mut MarkedWriter<E>) -> u8
     ensures status { result ≡ OUT_OF_MEMORY }
     ensures line { Says err.old err.new memory_line }
@@ -640,7 +640,7 @@ fn give_up<E: Write>(err: &mut MarkedWriter<E>) -> u8
     OUT_OF_MEMORY
 }
 
-// Answers words that are no request.
+// Answers arguments that make no request.
 fn refuse<W: Write, E: Write>(
     error: Error,
     out: &mut MarkedWriter<W>,
@@ -656,7 +656,7 @@ fn refuse<W: Write, E: Write>(
     }
 }
 
-// Answers a command line in which an account and its option are one word, and gives the status.
+// Answers a command line in which an account and its option are one argument, and returns the status.
 fn answer_words<
     T: AsStr,
     S: Sources,
@@ -684,11 +684,13 @@ fn answer_words<
     }
 }
 
-/// Answers a command line, of which the first word is the program's name, and gives the status. A request is answered
-/// as by `serve`; help and the version go to `out` alone and a mistake to `err` alone. The bounds of the two differ, so that the
-/// standard streams cannot be exchanged. The word behind `--account` is its value, whatever it begins with. Files and the input are read as
-/// by `serve`. Nothing is read for a command line that is no request, nor when memory runs out before the request is known. To `out` no
-/// write may have failed before.
+/// Answers a command line, whose first argument is the program's name, and returns the status. A request is answered as
+/// by `serve`. Help and the version are written only to `out`, and usage errors only to `err`. The trait bounds of the
+/// two differ, so that the standard streams cannot be exchanged. The argument after `--account` is its value, whatever
+/// it begins with.
+///
+/// Files and the input are read as by `serve`. Nothing is read for a command line that makes no request, or if memory
+/// runs out before the request is known. No write to `out` may have failed before.
 pub fn run_words<
     T: AsStr,
     S: Sources,
@@ -718,8 +720,8 @@ pub fn run_words<
     }
 }
 
-/// Answers words that cannot be read, and gives the status: a word that is no text is a mistake of usage, and else
-/// out of memory.
+/// Answers arguments that cannot be read, and returns the status. An argument that is not UTF-8 is a usage error; any
+/// other error is reported as out of memory.
 pub fn refuse_words<E: ErrorStream>(error: &io::Error, err: &mut MarkedWriter<E>) -> u8
     ensures no_text { error_kind error.now ≡ kind.InvalidData → result ≡ USAGE }
     ensures memory { error_kind error.now ≢ kind.InvalidData → result ≡ OUT_OF_MEMORY }

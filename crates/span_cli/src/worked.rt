@@ -1,4 +1,4 @@
-//! Command lines and files with what the definitions make of them, each computed by the definitions alone.
+//! Test vectors: command lines and files with their results, each computed by the definitions alone.
 #![tactic(auto, unfolding(crate::specs::near::OnLiterals::on_literals))]
 
 ghost use Rattle.clap.specs.declared.error.kind.ErrorKind.TheVariants as kind;
@@ -10,26 +10,26 @@ ghost use Rattle.sources.specs.declared.ReadFault.TheVariants as read;
 ghost use Rattle.sources.specs.declared.TheConstants.{FILE_CAP};
 ghost use Rattle.std.specs.Prelude.{◌≡◌, ◌∷◌, Err, None, Ok, Some, [], bytes_eq, codes, if◌then◌else◌, true};
 
-// `span check p` is taken, and asks for just that.
+// `span check p` is valid, and its request has this file.
 fn check_of_a_file()
     ensures taken { is_request (codes "span" ∷ codes "check" ∷ codes "p" ∷ []) ≡ true }
     ensures asked { asked_in (codes "span" ∷ codes "check" ∷ codes "p" ∷ []) ≡ Some (Check, codes "p" ∷ []) }
 {}
 
-// `span plan p` is taken, and asks for just that.
+// `span plan p` is valid, and its request has this file.
 fn plan_of_a_file()
     ensures taken { is_request (codes "span" ∷ codes "plan" ∷ codes "p" ∷ []) ≡ true }
     ensures asked { asked_in (codes "span" ∷ codes "plan" ∷ codes "p" ∷ []) ≡ Some (Plan, codes "p" ∷ []) }
 {}
 
-// `span margin p q` is taken, and asks for just that, with the files in their order and one worker.
+// `span margin p q` is valid. Its request has the files in their order and one worker.
 fn margin_of_two_files()
     ensures taken { is_request (codes "span" ∷ codes "margin" ∷ codes "p" ∷ codes "q" ∷ []) ≡ true }
     ensures asked { asked_in (codes "span" ∷ codes "margin" ∷ codes "p" ∷ codes "q" ∷ [])
         ≡ Some (Margin 1, codes "p" ∷ codes "q" ∷ []) }
 {}
 
-// `span explain p q` is taken, and asks for just that, with the files in their order and no account.
+// `span explain p q` is valid. Its request has the files in their order and no account.
 fn explain_of_two_files()
     ensures taken { is_request (codes "span" ∷ codes "explain" ∷ codes "p" ∷ codes "q" ∷ []) ≡ true }
     ensures asked { asked_in (codes "span" ∷ codes "explain" ∷ codes "p" ∷ codes "q" ∷ [])
@@ -39,7 +39,7 @@ fn explain_of_two_files()
         ≡ kind.UnknownArgument ∷ [] }
 {}
 
-// An account in the option's word, before the files and behind them.
+// An account in one argument with its option, before the files and after them.
 fn explain_of_an_account()
     ensures taken { is_request (codes "span" ∷ codes "explain" ∷ codes "--account=X-1" ∷ codes "p" ∷ codes "q" ∷ []) ≡ true }
     ensures before { asked_in (codes "span" ∷ codes "explain" ∷ codes "--account=X-1" ∷ codes "p" ∷ codes "q" ∷ [])
@@ -49,7 +49,7 @@ fn explain_of_an_account()
         ≡ Some (Explain (Some (codes "-X")), codes "p" ∷ codes "q" ∷ []) }
 {}
 
-// Accounts that are refused: no name, an empty one, one of 17 bytes; none behind the option, and two of them.
+// Accounts that are rejected: a malformed name, an empty one, one of 17 bytes, a missing one, and two of them.
 fn refused_accounts()
     ensures small { kinds_of (codes "span" ∷ codes "explain" ∷ codes "p" ∷ codes "q" ∷ codes "--account=x" ∷ [])
         ≡ kind.ValueValidation ∷ [] }
@@ -65,7 +65,7 @@ fn refused_accounts()
         ≡ kind.UnknownArgument ∷ [] }
 {}
 
-// The word behind `--account` is its value, whatever it is; behind a `--` no word is an option.
+// The argument after `--account` is its value, whatever it is. After a `--` no argument is an option.
 fn joined_accounts()
     ensures plain { joined_words (codes "span" ∷ codes "explain" ∷ codes "p" ∷ codes "q" ∷ codes "--account" ∷ codes "X" ∷ [])
         ≡ codes "span" ∷ codes "explain" ∷ codes "p" ∷ codes "q" ∷ codes "--account=X" ∷ [] }
@@ -83,7 +83,7 @@ fn joined_accounts()
         ≡ codes "--account" ∷ codes "check" ∷ codes "p" ∷ [] }
 {}
 
-// `span roll p n q` is taken, and asks for just that, with the files in their order and one worker; and with three.
+// `span roll p n q` is valid. Its request has the files in their order and one worker, or three workers.
 fn roll_of_three_files()
     ensures taken { is_request (codes "span" ∷ codes "roll" ∷ codes "p" ∷ codes "n" ∷ codes "q" ∷ []) ≡ true }
     ensures asked { asked_in (codes "span" ∷ codes "roll" ∷ codes "p" ∷ codes "n" ∷ codes "q" ∷ [])
@@ -95,7 +95,7 @@ fn roll_of_three_files()
     ensures no_next { kinds_of (codes "span" ∷ codes "roll" ∷ codes "p" ∷ codes "q" ∷ []) ≡ kind.MissingRequiredArgument ∷ [] }
 {}
 
-// `span whatif p q o` is taken, and asks for just that, with the files in their order and one worker; and with two.
+// `span whatif p q o` is valid. Its request has the files in their order and one worker, or two workers.
 fn whatif_of_three_files()
     ensures taken { is_request (codes "span" ∷ codes "whatif" ∷ codes "p" ∷ codes "q" ∷ codes "o" ∷ []) ≡ true }
     ensures asked { asked_in (codes "span" ∷ codes "whatif" ∷ codes "p" ∷ codes "q" ∷ codes "o" ∷ [])
@@ -109,7 +109,7 @@ fn whatif_of_three_files()
         ≡ kind.UnknownArgument ∷ [] }
 {}
 
-// `span session p q` is taken, and asks for just that, with the files in their order and one worker; and with two.
+// `span session p q` is valid. Its request has the files in their order and one worker, or two workers.
 fn session_of_two_files()
     ensures taken { is_request (codes "span" ∷ codes "session" ∷ codes "p" ∷ codes "q" ∷ []) ≡ true }
     ensures asked { asked_in (codes "span" ∷ codes "session" ∷ codes "p" ∷ codes "q" ∷ [])
@@ -121,7 +121,8 @@ fn session_of_two_files()
     ensures three { kinds_of (codes "span" ∷ codes "session" ∷ codes "p" ∷ codes "q" ∷ codes "r" ∷ []) ≡ kind.UnknownArgument ∷ [] }
 {}
 
-// `span faults p` and `span faults p q` are taken, and ask for just that; a third file and a number of workers are refused.
+// `span faults p` and `span faults p q` are valid, and their requests have these files. A third file and a number of
+// workers are rejected.
 fn faults_of_one_file_or_two()
     ensures taken { is_request (codes "span" ∷ codes "faults" ∷ codes "p" ∷ []) ≡ true }
     ensures asked { asked_in (codes "span" ∷ codes "faults" ∷ codes "p" ∷ []) ≡ Some (Faults, codes "p" ∷ []) }
@@ -134,7 +135,7 @@ fn faults_of_one_file_or_two()
         ≡ kind.UnknownArgument ∷ [] }
 {}
 
-// A number of workers behind the files, as a word of its own.
+// A number of workers after the files, in an argument of its own.
 fn workers_behind_the_files()
     ensures taken { is_request (codes "span" ∷ codes "margin" ∷ codes "p" ∷ codes "q" ∷ codes "--workers" ∷ codes "16" ∷ [])
         ≡ true }
@@ -142,7 +143,7 @@ fn workers_behind_the_files()
         ≡ Some (Margin 16, codes "p" ∷ codes "q" ∷ []) }
 {}
 
-// A number of workers before the files, in the option's word.
+// A number of workers before the files, in one argument with its option.
 fn workers_before_the_files()
     ensures taken { is_request (codes "span" ∷ codes "margin" ∷ codes "--workers=2" ∷ codes "p" ∷ codes "q" ∷ []) ≡ true }
     ensures asked { asked_in (codes "span" ∷ codes "margin" ∷ codes "--workers=2" ∷ codes "p" ∷ codes "q" ∷ [])
@@ -156,7 +157,7 @@ fn workers_with_a_plus()
         ≡ Some (Margin 3, codes "p" ∷ codes "q" ∷ []) }
 {}
 
-// Numbers of workers that are refused: none, one too many, and texts that are no number.
+// Numbers of workers that are rejected: none, one too many, and texts that are not numbers.
 fn refused_workers()
     ensures none { kinds_of (codes "span" ∷ codes "margin" ∷ codes "p" ∷ codes "q" ∷ codes "--workers" ∷ codes "0" ∷ [])
         ≡ kind.ValueValidation ∷ [] }
@@ -168,7 +169,8 @@ fn refused_workers()
         ≡ kind.ValueValidation ∷ [] }
 {}
 
-// An option that is misused: a minus as a flag, no number, two numbers, and a command that has no workers.
+// Wrong uses of the option: a negative number, which is read as an option, no number, two numbers, and a command
+// without workers.
 fn misused_workers()
     ensures flag { kinds_of (codes "span" ∷ codes "margin" ∷ codes "p" ∷ codes "q" ∷ codes "--workers" ∷ codes "-1" ∷ [])
         ≡ kind.UnknownArgument ∷ [] }
@@ -180,7 +182,7 @@ fn misused_workers()
         ≡ kind.UnknownArgument ∷ [] }
 {}
 
-// Words that are no request: a command left out, a file left out, and a word too many.
+// Arguments that make no request: a missing command, a missing file, and one argument too many.
 fn mistakes()
     ensures no_command { kinds_of (codes "span" ∷ []) ≡ kind.MissingSubcommand ∷ [] }
     ensures no_file { kinds_of (codes "span" ∷ codes "check" ∷ []) ≡ kind.MissingRequiredArgument ∷ [] }
@@ -205,7 +207,7 @@ fn files_that_are_not_read()
     ensures of_a_plan { IsAnswer (files_alone (λ _. Some (Err read.Failed))) (Plan, codes "p" ∷ []) (refused 6 (codes "file: p\n")) }
 {}
 
-// The first of several is named, also where those behind it are unknown.
+// The first file that cannot be read is named, even if the files after it are unknown.
 fn first_that_is_not_read()
     ensures first { IsAnswer (files_alone (λ _. Some (Err read.Failed))) (Margin 1, codes "p" ∷ codes "q" ∷ [])
         (refused 6 (codes "file: p\n")) }
@@ -222,7 +224,7 @@ fn first_that_is_not_read()
         (WhatIf 1, codes "p" ∷ codes "q" ∷ codes "o" ∷ []) (refused 6 (codes "file: o\n")) }
 {}
 
-// The counts and the statement of small files, and two that are refused.
+// The counts and the statement of small files, and files that are rejected.
 fn files_that_are_read()
     ensures counts { IsAnswer (files_alone (λ _. Some (Ok (codes "SET,D1,1,USD\nCOMMODITY,AA,0,SUM\n")))) (Check, codes "p" ∷ [])
         (done (codes "OK,D1,1,0,0,0,0,0\n")) }
@@ -242,7 +244,8 @@ fn files_that_are_read()
         (refused 4 (codes "orders: B1 UnknownContract at record 1 order BUY\n")) }
 {}
 
-// Files without a fault, the one fault of an empty parameter file, and faults of both files, which have the status of the first.
+// Files without a fault, the one fault of an empty parameter file, and faults of both files, with the status of the
+// first fault.
 fn files_whose_faults_are_told()
     ensures no_fault { IsAnswer
         (files_alone (λ name. if bytes_eq name (codes "p") then Some (Ok (codes "SET,D1,1,USD\n")) else Some (Ok [])))
@@ -265,8 +268,8 @@ fn files_whose_faults_are_told()
         (Faults, codes "p" ∷ codes "q" ∷ []) (refused 6 (codes "file: q\n")) }
 {}
 
-// A session that is refused before its first request: for its parameters, for a file that is not there, and for the stream of requests in
-// the place of a file.
+// Sessions that are rejected before their first request: for their parameters, for a missing file, and for the stream
+// of requests given as a file.
 fn refused_sessions()
     ensures no_set { IsAnswer (files_alone (λ _. Some (Ok []))) (Session 1, codes "p" ∷ codes "q" ∷ [])
         (refused 3 (codes "parameters: P1 NoSet at record 0\n")) }
@@ -280,7 +283,7 @@ fn refused_sessions()
         else Some (Ok []))) (Margin 1, codes "p" ∷ codes "/dev/stdin" ∷ []) (done []) }
 {}
 
-// The plan of a set alone, and the refusal of a file that is no set.
+// The plan of a parameter set without commodities, and the rejection of a file that is not a parameter set.
 fn plans()
     ensures alone { IsAnswer (files_alone (λ _. Some (Ok (codes "SET,D1,1,USD\n")))) (Plan, codes "p" ∷ [])
         (done (codes "0 InterStart()\n1 TotalStart()\n")) }

@@ -1,11 +1,11 @@
--- What is still to be joined, by what the next word may be.
+-- What is still to be joined, depending on what the next argument may be.
 use Rattle.std.specs.Prelude.{List, ◌∷◌, codes}
 use Rattle.clap.specs.Words.{Text}
 use Rattle.span_cli.specs.Words.{joined, joined_words}
 use Rattle.span_cli.specs.declared.joining.NextWord.{NextWord}
 use Rattle.span_cli.specs.declared.joining.NextWord.TheVariants.{Program, Any, Value, Plain}
 
--- what is made of the words, of which the first may be this
+-- the joined form of these arguments, if this is what the first of them may be
 abbrev pub rest_of : NextWord → List Text → List Text
 rest_of Program words = joined_words words
 rest_of Any words = joined words

@@ -1,7 +1,7 @@
--- What is known of a reader whose turns are counted.
+-- What is known of a reader with a limited number of turns.
 use Rattle.std.specs.Prelude.{ℕ, Bool, List, Option}
 
--- the bytes that are still to come, where they are known; how many turns are left; and whether one of them failed
+-- the bytes that remain, if they are known; the number of turns left; and whether one of the turns failed
 pub record Reading : Type 0 where
   pub bytes : Option (List ℕ)
   pub turns : ℕ

@@ -1,4 +1,4 @@
--- What clap is told of a row of the code's table.
+-- The `clap` definition of a row of the code's table.
 use Rattle.std.specs.Prelude.{List, [], ◌∷◌, Option, Some, None, map}
 use Rattle.clap.specs.Words.{App, Rule, new_app}
 use Rattle.span_cli.specs.Words.{account_rule, file_rule, with_rules, workers_rule}
