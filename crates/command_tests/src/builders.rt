@@ -1,4 +1,4 @@
-//! What the tests share: a writer that breaks, and what a command line gives.
+//! What the tests share: a writer that fails, and the result of a command line.
 use sources::Sources;
 use span_cli::outputs::{ErrorStream, OutputStream};
 use span_cli::words::run_words;
@@ -11,7 +11,7 @@ use std::time::Clock;
 use worker_pool::gates::Gate;
 use writers::marked_writer::MarkedWriter;
 
-/// A status, and what was written.
+/// A status, and what was written on both streams.
 #[derive(Drop)]
 pub struct Given {
     pub status: u8,
@@ -25,7 +25,7 @@ impl Given {
     }
 }
 
-/// What a command line gives over these sources and this input, whose workers pass this gate.
+/// Returns the result of a command line with these sources and this input. Its workers pass this gate.
 pub(crate) fn run_over<S: Sources, I: Read + Drop, R: Threads + Wait + Clock + Sync, G: Gate>(
     rt: &R,
     alloc: Global,
@@ -44,7 +44,7 @@ pub(crate) fn run_over<S: Sources, I: Read + Drop, R: Threads + Wait + Clock + S
     }
 }
 
-/// What a command line gives over these sources and an empty input, whose workers pass this gate.
+/// Returns the result of a command line with these sources and an empty input. Its workers pass this gate.
 pub(crate) fn run_on<S: Sources, R: Threads + Wait + Clock + Sync, G: Gate>(
     rt: &R,
     alloc: Global,
@@ -55,7 +55,7 @@ pub(crate) fn run_on<S: Sources, R: Threads + Wait + Clock + Sync, G: Gate>(
     run_over(rt, alloc, words, sources, gate, b"".as_slice())
 }
 
-/// Takes a few bytes and then fails.
+/// A writer that takes a few bytes and then fails.
 #[derive(Drop)]
 pub struct Breaking {
     pub room: usize,

@@ -1,5 +1,5 @@
-//! Each public call of `span_cli` whose clause lets it give up, because memory ran out or where a reader or writer fails: that it
-//! succeeds where there is memory and nothing fails, once; and the texts of what cannot be read.
+//! Each public call of `span_cli` whose contract lets it fail because memory runs out or because a reader or writer
+//! fails. The tests check that it succeeds once if there is memory and nothing fails, and the texts of read faults.
 use crate::builders::run_on;
 use sample_files::calendar::{COUNTS, PARAMS};
 use sources::{ReadFault, Sources};
@@ -19,10 +19,10 @@ use std::time::Clock;
 use worker_pool::gates::OpenGate;
 use writers::marked_writer::MarkedWriter;
 
-// The file of a calendar spread, in memory.
+// The parameter file of a calendar spread, in memory.
 const FILES: [(&str, &[u8]); 1] = [("params.csv", PARAMS)];
 
-// Sources that are read: files in memory, and a stream of the system.
+// Reading sources: files in memory, and a stream of the system.
 fn of_sources<R: Files + Abort>(rt: &R, alloc: Global) {
     let mut sources = InMemory {
         files: &[("params.csv", b"P"), ("positions.csv", b"Q")],
@@ -34,7 +34,7 @@ fn of_sources<R: Files + Abort>(rt: &R, alloc: Global) {
     assert!(rt; read.is_empty());
 }
 
-// A reader that is read to its end, by turns and as a file.
+// Reading a reader to its end, by turns and as a file.
 fn of_readers(rt: &impl Abort, alloc: Global) {
     let mut turns = Turns::new(b"abc".as_slice(), 4);
     let read = read_within(alloc, &mut turns, 3).expect(rt, "bytes");
@@ -43,7 +43,7 @@ fn of_readers(rt: &impl Abort, alloc: Global) {
     assert_eq!(rt; read.as_slice(), b"abc".as_slice());
 }
 
-// The name of a stream that is kept.
+// Keeping the name of a stream.
 fn of_streams(rt: &impl Abort, alloc: Global) {
     let mut streams = Streams::new(alloc);
     streams.keep(alloc, "/dev/stdin").expect(rt, "room");
@@ -55,7 +55,7 @@ fn of_streams(rt: &impl Abort, alloc: Global) {
     assert!(rt; streams.may_read("params.csv"));
 }
 
-// What words ask for.
+// Parsing arguments to a request.
 fn of_words(rt: &impl Abort, alloc: Global) {
     let words = ["span", "check", "params.csv"];
     let asked = request(alloc, &words).expect(rt, "a command line");
@@ -69,14 +69,14 @@ fn of_words(rt: &impl Abort, alloc: Global) {
     );
 }
 
-// A command line that is answered.
+// Answering a command line.
 fn of_lines<R: Threads + Wait + Clock + Sync + Abort>(rt: &R, alloc: Global) {
     let mut sources = InMemory { files: &FILES };
     let words = ["span", "check", "params.csv"];
     assert!(rt; run_on(rt, alloc, &words, &mut sources, &OpenGate).is(0, COUNTS, b""));
 }
 
-// A request that is answered.
+// Answering a request.
 fn of_requests<R: Threads + Wait + Clock + Sync + Abort>(rt: &R, alloc: Global) {
     let mut sources = InMemory { files: &FILES };
     let mut out = MarkedWriter::new(Vec::new(alloc));

@@ -1,7 +1,8 @@
-//! Tests of the command line, from words and sources to both streams: of what no clause says, as that the calls succeed where there
-//! is memory, what workers do at the same time, and what is said where a reader or a writer fails.
+//! Tests of the command line, from arguments and sources to both streams. They show what no contract says: that the
+//! calls succeed if there is memory, what workers do at the same time, and what is printed if a reader or a writer
+//! fails.
 //!
-//! They stand in a crate of their own, since a crate with tests is proved twice.
+//! They are in a crate of their own because a crate with tests is proved twice.
 #![tactic(auto)]
 
 #[cfg(test)]

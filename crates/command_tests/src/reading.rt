@@ -1,4 +1,4 @@
-//! Readers that give little at a time, are interrupted, break, or come to no end.
+//! Readers that return a few bytes at a time, are interrupted, fail, or never end.
 use sources::ReadFault;
 use span_cli::reading::{Turns, read_within};
 use std::alloc::Global;
@@ -14,7 +14,7 @@ enum Turn {
     Breaks,
 }
 
-// Takes its turns, and then the last one again for ever.
+// Takes its turns, and then repeats the last one forever.
 #[derive(Drop)]
 struct Script {
     turns: &'static [Turn],
@@ -50,7 +50,7 @@ fn reads_to_the_end(rt: HostRuntime) {
     let cases: [(&'static [Turn], &[u8]); 5] = [
         (&[], b""),
         (&[Turn::Gives(b"ab")], b"ab"),
-        // Exactly as many bytes as there may be.
+        // Exactly the largest number of bytes.
         (&[Turn::Gives(b"abc")], b"abc"),
         (
             &[Turn::Gives(b"a"), Turn::Gives(b"b"), Turn::Gives(b"c")],
@@ -76,7 +76,7 @@ fn reads_to_the_end(rt: HostRuntime) {
     }
 }
 
-// Whether a reading is refused so.
+// Whether a reading fails with this fault.
 fn is_refused(alloc: Global, turns: &'static [Turn], last: Turn, expected: ReadFault) -> bool {
     match read(alloc, turns, last) {
         Ok(_bytes) => false,
@@ -108,7 +108,7 @@ fn fails_where_a_turn_fails(rt: HostRuntime) {
     assert!(rt; is_refused(alloc, turns, Turn::Ends, ReadFault::Failed));
 }
 
-// A reader that is interrupted for ever, and one that ends when the turns are over.
+// A reader that is interrupted forever, and one that ends after its turns are used up.
 #[test]
 fn fails_where_the_turns_run_out(rt: HostRuntime) {
     let alloc = rt.alloc();

@@ -1,4 +1,4 @@
-//! Sessions over inputs that end, that end within a line and that fail, and over outputs that fail.
+//! Sessions with inputs that end, that end within a line and that fail, and with outputs that fail.
 use crate::builders::{Breaking, Given, run_over};
 use sample_files::one_future::{PARAMS, POSITIONS};
 use span_cli::memory::InMemory;
@@ -16,7 +16,7 @@ const FILES: [(&str, &[u8]); 2] = [("params.csv", PARAMS), ("positions.csv", POS
 
 const WORDS: [&str; 4] = ["span", "session", "params.csv", "positions.csv"];
 
-// Gives its bytes, a few at a time, and then fails.
+// Returns its bytes, a few at a time, and then fails.
 #[derive(Drop)]
 struct Cut {
     bytes: &'static [u8],
@@ -35,7 +35,7 @@ impl Read for Cut {
     }
 }
 
-// What a session over the two files gives for this input.
+// The result of a session with the two files and this input.
 fn session_over<I: Read + Drop, R: Threads + Wait + Clock + Sync>(
     rt: &R,
     alloc: Global,
@@ -59,7 +59,7 @@ X,FA,1
 done,2
 ";
 
-// The answers to the first request and to none.
+// The length of the answers with numbers 0 and 1.
 const FIRST_ANSWERS: usize = 92;
 
 #[test]
@@ -67,7 +67,7 @@ fn answers_to_the_end_of_the_input(rt: HostRuntime) {
     assert!(rt; session_over(&rt, rt.alloc(), &WORDS, REQUESTS).is(0, ANSWERS, b""));
 }
 
-// A line that a failure cuts off is no request.
+// A line that is cut off by a failure is not a request.
 #[test]
 fn says_that_the_input_failed(rt: HostRuntime) {
     let input = Cut { bytes: REQUESTS };
@@ -75,7 +75,7 @@ fn says_that_the_input_failed(rt: HostRuntime) {
     assert!(rt; session_over(&rt, rt.alloc(), &WORDS, input).is(6, first, b"file: input\n"));
 }
 
-// The stream of requests is neither of the two files.
+// Neither of the two files may be the stream of requests.
 #[test]
 fn refuses_the_stream_of_requests(rt: HostRuntime) {
     for words in [
@@ -87,7 +87,7 @@ fn refuses_the_stream_of_requests(rt: HostRuntime) {
     }
 }
 
-// An output that takes a part of the answers.
+// An output that takes only a part of the answers.
 #[test]
 fn says_that_the_output_failed(rt: HostRuntime) {
     let alloc = rt.alloc();

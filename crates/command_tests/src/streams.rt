@@ -1,4 +1,4 @@
-//! Writers that fail after each number of bytes: of a statement, of a line of counts and of the line of a fault.
+//! Writers that fail after each number of bytes: for a statement, a line of counts and the line of a fault.
 use sample_files::one_future;
 use sample_files::three_commodities::{PARAMS, POSITIONS, STATEMENT};
 use span_cli::memory::InMemory;
@@ -35,7 +35,8 @@ impl Write for Narrow {
     }
 }
 
-/// The status of a margin of two files in memory, and what went out on both streams, of which each has so much room.
+/// Returns the status of a margin of two files in memory, and what was written on both streams, which have this much
+/// room.
 fn margin_into<R: Threads + Wait + Clock + Sync>(
     rt: &R,
     alloc: Global,
@@ -72,7 +73,7 @@ fn margin_into<R: Threads + Wait + Clock + Sync>(
     (status, out.into_inner().kept, err.into_inner().kept)
 }
 
-// What went out is the beginning of the statement, and the error stream says that the output failed.
+// The beginning of the statement is written, and the error stream says that the output failed.
 #[test]
 fn output_that_fails(rt: HostRuntime) {
     for room in 0..STATEMENT.len() {
@@ -89,7 +90,7 @@ fn output_that_fails(rt: HostRuntime) {
 
 const LINE: &[u8] = b"positions: B1 UnknownContract at record 2 account X\n";
 
-// The status of a fault stands, and what went out is the beginning of its line.
+// The status is the fault's, and the beginning of its line is written.
 #[test]
 fn line_that_fails(rt: HostRuntime) {
     for room in 0..=LINE.len() {
@@ -100,7 +101,7 @@ fn line_that_fails(rt: HostRuntime) {
     }
 }
 
-// Where both streams fail, the status is that of the output.
+// If both streams fail, the status is 6, as for the output alone.
 #[test]
 fn both_that_fail(rt: HostRuntime) {
     let line = b"file: output\n".as_slice();

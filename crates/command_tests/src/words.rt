@@ -1,4 +1,4 @@
-//! Command lines where a file cannot be read, or a stream fails.
+//! Command lines with a file that cannot be read, or a stream that fails.
 use crate::builders::{Breaking, run_on};
 use sample_files::one_future::{PARAMS, POSITIONS, STATEMENT};
 use sources::{ReadFault, Sources};
@@ -24,7 +24,7 @@ const FILES: [(&str, &[u8]); 4] = [
     ("unknown.csv", b"X,FA,1\nY,FZ,1\n"),
 ];
 
-// Gives one file, and refuses the next.
+// Returns the first file, and fails for the next.
 #[derive(Drop)]
 struct Second {
     reads: usize,
@@ -41,7 +41,7 @@ impl Sources for Second {
     }
 }
 
-// No file has room in memory.
+// Memory runs out for every file.
 #[derive(Drop)]
 struct Cramped;
 
@@ -69,7 +69,7 @@ fn refuses_what_cannot_be_read(rt: HostRuntime) {
     assert!(rt; run_on(&rt, alloc, &check, &mut Cramped, &OpenGate).is(5, b"", b"memory\n"));
 }
 
-// The status of a command line over `FILES`, and what a writer of the output and one of the lines hold in the end.
+// The status of a command line with `FILES`, and the two writers afterwards.
 fn run_into<W: OutputStream, E: ErrorStream, R: Threads + Wait + Clock + Sync>(
     rt: &R,
     alloc: Global,
@@ -145,7 +145,7 @@ fn keeps_its_status_where_both_streams_fail(rt: HostRuntime) {
     assert_eq!(rt; status, 6);
 }
 
-// A word that is no text is a mistake of usage; another fault in reading the words is out of memory.
+// An argument that is not UTF-8 is a usage error. Another error in reading the arguments is reported as out of memory.
 #[test]
 fn refuses_words_that_cannot_be_read(rt: HostRuntime) {
     let cases: [(ErrorKind, u8, &[u8]); 2] = [

@@ -1,4 +1,4 @@
-//! Workers: that those that are asked for take part, all at the same time, and that each step is evaluated once.
+//! Workers: all of them take part, at the same time, and each step is evaluated once.
 use crate::builders::{Given, run_on};
 use sample_files::two_commodities::{PARAMS, POSITIONS, STATEMENT};
 use span_cli::memory::InMemory;
@@ -14,17 +14,17 @@ use std::time::Clock;
 use worker_pool::batch::MAX_WORKERS;
 use worker_pool::gates::Gate;
 
-/// The steps of the plan of two commodities with a spread between them.
+/// The number of steps in the plan of two commodities with a spread between them.
 const STEPS: usize = 23;
-/// Their order on one worker (docs/ARCHITECTURE.md): those of each commodity but its figures, those between commodities, the figures, the
-/// totals.
+/// The order of the steps on one worker (docs/ARCHITECTURE.md): the steps of each commodity except its figures, the
+/// steps between commodities, the figures, the totals.
 const IN_ORDER: [usize; STEPS] = [
     0, 1, 2, 3, 4, 5, 6, 8, 9, 10, 11, 12, 13, 14, 16, 17, 18, 19, 7, 15, 20, 21, 22,
 ];
 
-// A gate at which each pass waits until so many workers have entered. When the turns of one pass are used up, it is too late, and
-// lets everything pass. It notes the workers and the steps that passed by bits, how many passes there were, and whether one was not the
-// next in order.
+// A gate at which each pass waits until `awaited` workers have entered. If the turns of one pass are used up, it is too
+// late, and everything may pass. It notes, as bits, which workers and steps passed, how many passes there were, and
+// whether one was out of order.
 #[derive(Drop)]
 struct Together {
     awaited: u32,
@@ -47,17 +47,17 @@ impl Together {
         }
     }
 
-    // Whether these workers, numbered from 0, passed and no other, and none in vain.
+    // Whether exactly these workers passed, and no pass was too late. Worker 0 is the lowest bit.
     fn were_together(&self, workers: u64) -> bool {
         self.workers.load(SeqCst) == workers && !self.late.load(SeqCst)
     }
 
-    // Whether each step of the plan passed once, and no other.
+    // Whether each step of the plan passed exactly once.
     fn was_passed_once_by_each_step(&self) -> bool {
         self.steps.load(SeqCst) == (1 << STEPS) - 1 && self.passes.load(SeqCst) == STEPS
     }
 
-    // Whether each step of the plan passed in its order.
+    // Whether the steps of the plan passed in their order.
     fn was_passed_in_order(&self) -> bool {
         self.passes.load(SeqCst) == STEPS && !self.astray.load(SeqCst)
     }
@@ -86,7 +86,7 @@ impl Gate for Together {
     }
 }
 
-// What a command line gives for two files.
+// The result of a command line with two files.
 fn run<R: Threads + Wait + Clock + Sync>(
     rt: &R,
     alloc: Global,
@@ -120,7 +120,7 @@ fn three_workers_at_once(rt: HostRuntime) {
     assert!(rt; gate.was_passed_once_by_each_step());
 }
 
-// An order of a new account, of which three workers share the steps.
+// An order of a new account, whose steps three workers share.
 #[test]
 fn three_workers_at_one_order(rt: HostRuntime) {
     let gate = Together::new(3);
@@ -157,10 +157,10 @@ fn each_step_once_in_order_on_one_worker(rt: HostRuntime) {
     assert!(rt; gate.was_passed_once_by_each_step() && gate.was_passed_in_order());
 }
 
-/// The commodities of a set in which many steps of an account are ready at once.
+/// The number of commodities in a parameter set under which many steps of an account are ready at once.
 const MANY: usize = 16;
 
-// A future of each of many commodities, which loses 100 when prices fall by the whole range.
+// One future for each of many commodities. It loses 100 when prices fall by the whole range.
 fn wide_params(alloc: Global) -> Result<String, AllocError> {
     let mut text = format!(in alloc; "SET,D1,1,USD\n")?;
     for commodity in 0..MANY {
@@ -185,7 +185,7 @@ fn wide_positions(alloc: Global) -> Result<String, AllocError> {
     Ok(text)
 }
 
-// What the set of many commodities gives for its two accounts, by these words.
+// The result of these arguments with the parameter set of many commodities and its two accounts.
 fn run_wide<R: Threads + Wait + Clock + Sync + Abort>(
     rt: &R,
     alloc: Global,

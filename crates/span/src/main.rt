@@ -1,4 +1,4 @@
-//! `span`: margins futures and options accounts by the SPAN method.
+//! `span`: computes SPAN margin requirements for accounts of futures and options.
 #![tactic(auto)]
 
 use span_cli::disk::Disk;
