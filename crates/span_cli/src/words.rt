@@ -197,8 +197,8 @@ Evaluate each order by itself on the positions of its account. Print a CHANGE li
 requirement changes, then an ORDER line for the account's total:
   CHANGE,order,account,set,commodity,before,after,change
   ORDER,order,account,set,before,after,change
-If the parameter set has option values (version 2), the ORDER line also shows what the account has to post, which
-is its total minus its option value:
+If the parameter set has option values (version 2), the ORDER line also has what the account has to post: its
+total minus its option value, but at least 0:
   ORDER,order,account,set,before,after,change,due before,due after,due change
 All records with the same order name are one order. `before` is without the order, `after` is with it, and
 `change` is after minus before.
