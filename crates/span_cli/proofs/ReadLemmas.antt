@@ -39,7 +39,7 @@ module _ {S : Type 0} (reads : S → List ℕ → Bool → S → Type 0) where
   ends old now whole names i over held =
       held now (subst (λ (xs : List (List ℕ)). ReadsInOrder reads now xs now) (sym (at_drop_all texts names i over)) refl)
 
-  -- nothing was read, and a call that was asked for something gave up
+  -- nothing was read, and `gave_up` is true if the arguments are valid
   pub nothing_read : (now : S) (words : List Text) (gave_up : Type 0) → (is_request words ≡ true → gave_up)
       → ReadsAsked reads now [] (request_in words) now ⊎ ((now ≡ now) × gave_up)
   nothing_read now words gave_up told = of_request (is_request words) refl where

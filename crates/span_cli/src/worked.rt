@@ -291,7 +291,7 @@ fn plans()
         (refused 3 (codes "parameters: P1 NoSet at record 0\n")) }
 {}
 
-// How long a file may be, and how many turns a reading of it has.
+// The limit of a file in bytes, and the number of turns for reading it.
 fn limits()
     ensures bytes { FILE_CAP ≡ 67108864 }
     ensures turns { MAX_TURNS ≡ 67108865 }
