@@ -1,4 +1,4 @@
-//! Orders in batches, each evaluated on its account (docs/FORMATS.md, "Orders tried").
+//! Orders in batches, each evaluated on its account (docs/FORMATS.md, "Evaluated orders").
 ghost use Rattle.std.specs.Arc.{arc_value};
 ghost use Rattle.std.specs.Prelude.{◌≡◌, ◌++◌, ◌+◌, ◌-◌, ◌≤◌, IfOk, OnOk, drop, length, map, take};
 ghost use Rattle.worker_pool.specs.Batches.{AllFit};

@@ -1,4 +1,4 @@
-//! The lines of an order (docs/FORMATS.md, "Orders tried").
+//! The lines of an order (docs/FORMATS.md, "Evaluated orders").
 ghost use Rattle.std.specs.Prelude.{◌≡◌, ◌++◌, ◌<◌, OnOk, flat_map, length, map, pos};
 ghost use Rattle.inter_credit.specs.OptionValue.{due_of};
 ghost use Rattle.span_money.specs.LineFields.{line};

@@ -1,4 +1,4 @@
-//! Batches of portfolios that are margined (docs/FORMATS.md, "Orders tried").
+//! Batches of portfolios that are margined (docs/FORMATS.md, "Evaluated orders").
 ghost use Rattle.std.specs.Arc.{arc_value};
 ghost use Rattle.std.specs.Prelude.{◌≡◌, IfOk, map};
 ghost use Rattle.worker_pool.specs.Batches.{AllFit};

@@ -1,4 +1,4 @@
-//! From the bytes of three files to the changes that the orders would make (docs/FORMATS.md, "Orders tried").
+//! From the bytes of three files to the changes that the orders would make (docs/FORMATS.md, "Evaluated orders").
 ghost use Rattle.binding.specs.OrderBinding.{TriedOrders};
 ghost use Rattle.statement_text.specs.Gives.{Gives};
 ghost use Rattle.statement_text.specs.declared.faults.SpanFault.TheVariants as fault;
