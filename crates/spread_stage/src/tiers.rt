@@ -8,12 +8,13 @@ ghost use Rattle.spread_stage.specs.Months.{AreTierRests, MonthsRise, Shrinks, t
 ghost use Rattle.spread_stage.specs.Spreads.{formed_both, formed_in, rests_after, rests_after_leg, spread_both_ways};
 ghost use Rattle.spread_stage.specs.Spreads.{spread_one_way, tier_rooms, tier_side, unspread};
 ghost use Rattle.spread_stage.specs.near.Places.{ArePlaces};
-ghost use Rattle.spread_stage.specs.near.Uses.{used_in_turn};
+ghost use Rattle.spread_stage.specs.near.Sides.{HaveSides};
+ghost use Rattle.spread_stage.specs.near.Uses.{part_in_tier, used_in_turn};
 ghost use Rattle.spread_stage.specs.declared.months.MonthUnits.{MonthUnits};
 
 use crate::months::{MonthUnits, Months};
 use crate::open_months::open_sides;
-use crate::tier_places::TierPlaces;
+use crate::tier_places::{FEW_MONTHS, TierPlaces};
 use span_money::division::greatest_fit;
 use span_tables::legs::MonthLeg;
 use span_tables::records::Intra;
@@ -149,6 +150,7 @@ impl TierState {
         }
         let formed = form(&mut self.rests, &mut self.places, direction, intra.legs());
         self.charge += at_rate(formed, intra.rate());
+        self.sides = sides_after(formed, &self.rests, self.sides);
         formed
     }
 }
@@ -161,6 +163,30 @@ fn sum_on(months: &[MonthUnits], on: MarketSide) -> u64
     months.iter().map(|month| part_on(on, month.units)).sum()
 }
 
+// Returns what a month has on a side of the market if it is in a leg's tier, in units of 10^-8. It is 0 if the month is
+// not in the tier.
+#[inline(always)]
+fn part_in_tier(month: &MonthUnits, on: MarketSide, leg: &MonthLeg) -> u64
+    ensures value { result ≡ part_in_tier on leg.now month.now }
+    ensures bound { result ≤ part_on on (month.now).units }
+{
+    if leg.first <= month.month && month.month <= leg.last {
+        part_on(on, month.units)
+    } else {
+        0
+    }
+}
+
+// Returns the side of a leg's tier as `tier_side` does, by one pass over all months. If there are few of them, this takes
+// less time than to find the months of the tier, since no branch depends on the months.
+#[inline(always)]
+fn side_of_few(rests: &[MonthUnits], on: MarketSide, leg: &MonthLeg) -> u64
+    requires { sum_by (part_in_tier on leg.now) rests.now ≤ MAX_UNITS }
+    ensures { result ≡ sum_by (part_in_tier on leg.now) rests.now }
+{
+    rests.iter().map(|month| part_in_tier(month, on, leg)).sum()
+}
+
 // Returns the side of a leg's tier, in units of 10^-8, which is the sum of its months' parts.
 fn tier_side(rests: &[MonthUnits], places: &mut TierPlaces, on: MarketSide, leg: &MonthLeg) -> u64
     requires rise { MonthsRise rests.now }
@@ -169,6 +195,9 @@ fn tier_side(rests: &[MonthUnits], places: &mut TierPlaces, on: MarketSide, leg:
     ensures side { result ≡ tier_side rests.now on leg.now }
     ensures places { ArePlaces places.new rests.now }
 {
+    if rests.len() <= FEW_MONTHS {
+        return side_of_few(rests, on, leg);
+    }
     let (start, end) = places.find(rests, leg);
     sum_on(&rests[start..end], on)
 }
@@ -229,6 +258,21 @@ fn use_months(months: &mut [MonthUnits], on: MarketSide, needed: u64)
     }
 }
 
+// Uses what a leg needs as `use_leg` does, by one pass over all months.
+#[inline(always)]
+fn use_few(rests: &mut [MonthUnits], on: MarketSide, leg: &MonthLeg, needed: u64)
+    requires rise { MonthsRise rests.old }
+    requires small { total_size rests.old ≤ MAX_UNITS }
+    ensures { rests.new ≡ rests_after_leg on needed rests.old leg.now }
+{
+    let mut needed = needed;
+    for month in rests.iter_mut() {
+        let used = part_in_tier(month, on, leg).min(needed);
+        month.units = less_used(on, month.units, used);
+        needed -= used;
+    }
+}
+
 // Uses what a leg needs of its tier's side, from the earliest month on.
 fn use_leg(
     rests: &mut [MonthUnits],
@@ -243,6 +287,10 @@ fn use_leg(
     ensures rests { rests.new ≡ rests_after_leg on needed rests.old leg.now }
     ensures places { ArePlaces places.new rests.new }
 {
+    if rests.len() <= FEW_MONTHS {
+        use_few(rests, on, leg, needed);
+        return;
+    }
     let (start, end) = places.find(rests, leg);
     use_months(&mut rests[start..end], on, needed);
 }
@@ -293,6 +341,18 @@ fn form(
         use_legs(rests, places, direction, legs, formed);
     }
     formed
+}
+
+// Returns the sides on which months have a remaining delta after a number of spreads was formed. If there are few months,
+// they are found again, so that no later spread is formed in vain on a side that was used up.
+#[inline(always)]
+fn sides_after(formed: u64, rests: &[MonthUnits], before: OpenSides) -> OpenSides
+    ensures { HaveSides before rests.now → HaveSides result rests.now }
+{
+    if formed > 0 && rests.len() <= FEW_MONTHS {
+        return open_sides(rests);
+    }
+    before
 }
 
 // Returns an amount times a rate: in 10^-8 minor units for units of delta, in 10^-4 minor units for 10^-4 spreads.
