@@ -1,4 +1,4 @@
-"""What the suites share that run the program on generated files: the generators, limits of the sources, and checks of what is printed.
+"""Shared code of the suites that run the program on generated files: generators, limits from the sources, and checks of the output.
 
 All files are in the working directory, which `room` makes, so that no path has a character that is special for awk.
 """
@@ -15,10 +15,10 @@ PARAMS, NEXT, VALUE, POSITIONS, FEW, ORDERS, FAULTY_PARAMS, FAULTY_POSITIONS, LO
     "params", "params-next", "params-value", "positions", "few", "orders", "faulty-params", "faulty-positions", "long"))
 SAMPLES = {PARAMS: "params", NEXT: "params-next", VALUE: "params-value", POSITIONS: "positions-broker", FEW: "positions-hedger",
            ORDERS: "orders-broker", FAULTY_PARAMS: "params-faults", FAULTY_POSITIONS: "positions-faults"}
-MOST_SEEDS = 1000  # until one gives files that are not empty
+MOST_SEEDS = 1000  # at most, until one gives files that are not empty
 PIECE = 65536  # bytes; several workers read a file in pieces if it is long enough for two
 STEPS = 2, 4, 16  # numbers of workers for long files, and for one account
-# What standard error has for each exit status.
+# The pattern of standard error for each exit status.
 ACCEPTED = {0: b""}
 OF_FILES = {**ACCEPTED, 3: rb"parameters: [PC]\d+ [A-Za-z]+ at record \d+\n",
             4: rb"positions: [QB]\d+ [A-Za-z]+ at record \d+( account .+)?\n"}
@@ -42,8 +42,8 @@ class Program:
         return run([self.path, *words], timeout=self.timeout, stdin=stdin, **options)
 
     def answers(self, forms, counts, *words):
-        """Checks that standard error has the pattern that `forms` has for the exit status, with no output if this is not 0, and that each
-        number of workers gives the same as one. Returns the answer of one."""
+        """Checks that standard error has the pattern of `forms` for the exit status, that there is no output if the status is not 0, and
+        that each number of workers gives the same answer as one worker. Returns the answer of one worker."""
         one, name = self(*words), " ".join(map(str, words))
         assert re.fullmatch(forms.get(one.status, b"(?!)"), one.stderr) and not (one.status and one.stdout), f"{name}: {shown(one)}"
         for count in counts:
@@ -51,14 +51,14 @@ class Program:
         return one
 
     def faults(self, one, *files):
-        """Checks that the first of all faults is the one that the answer `one` reports, if any. Returns the lines of all faults."""
+        """Checks that the first line of `span faults` is the fault that the answer `one` reports, if any. Returns all lines of faults."""
         faults = self("faults", *files)
         same(faults._replace(stdout=first_line(faults.stdout)), Answer(one.status, one.stderr, b""), "faults")
         return faults.stdout
 
     def long(self, line, params, orders=None):
-        """Checks `span margin` of LONG, which has a statement, or the fault of this line. With orders it also checks that this is the first
-        of all faults, and that `span roll` and `span whatif` report it."""
+        """Checks that `span margin` of LONG prints a statement, or reports the fault `line`. With orders it also checks that this is the
+        first line of `span faults`, and that `span roll` and `span whatif` report it."""
         forms = {4: re.escape(line)} if line else ACCEPTED
         one = self.answers(forms, STEPS, "margin", params, LONG)
         assert LONG.stat().st_size >= 2 * PIECE and (line or one.stdout), "not long, or no statement"
@@ -68,8 +68,8 @@ class Program:
             self.answers(forms, STEPS, "whatif", params, LONG, orders)
 
     def orders(self, counts, params, positions, orders, most=None):
-        """Checks that each number of workers prints the same changes of orders, of each order once. The changes of the first orders are the
-        difference of two statements: without and with the order's records behind the positions. Returns the changes."""
+        """Checks that each number of workers prints the same changes, one set for each order. The changes of the first orders must be the
+        difference between two statements: of the positions, and of the positions followed by the order's records. Returns the changes."""
         changes = self.answers(ACCEPTED, counts, "whatif", params, positions, orders).stdout
         records = grouped(lines_of(read(orders)))
         same([line.split(b",")[1] for line in matching(b"ORDER,", changes)], [*records], "orders")
@@ -84,7 +84,7 @@ class Program:
 
 
 def random_files(seed):
-    """Writes PARAMS, POSITIONS and ORDERS, which are accepted."""
+    """Writes PARAMS, POSITIONS and ORDERS, all of which are accepted."""
     awk(LIB / "random-files.awk", seed=seed, params=PARAMS, positions=POSITIONS, orders=ORDERS)
 
 
@@ -94,7 +94,7 @@ def random_faults(seed):
 
 
 def sample_files(span, seed):
-    """Writes the files of SAMPLES: the examples, or the files of the first seed, from this one on, that gives some records and some faults."""
+    """Writes the files of SAMPLES: the examples, or files of the first seeds, from this one on, that give records and faults."""
     for file, name in SAMPLES.items():
         shutil.copyfile(EXAMPLES / f"{name}.csv", file)
     if seed is not None:
@@ -110,24 +110,24 @@ def long_kinds():
 
 
 def long_file(params, positions, **variables):
-    """Writes LONG of a `seed` and a `kind`, and returns the line of its fault, which is empty if it has none."""
-    write(LONG, awk(LIB / "long-files.awk", params, positions, told="line", **variables))
+    """Writes LONG for a `seed` and a `kind`, and returns the line of its fault, which is empty if it has none."""
+    write(LONG, awk(LIB / "long-files.awk", params, positions, report="line", **variables))
     return read("line")
 
 
 def limits(*names):
-    """The numbers that the file `limits` has under these names."""
+    """The values of these names in the file `limits`."""
     answer = run(["sh", "-c", f'root=$1; . "$2"; echo {" ".join(f"${name}" for name in names)}', "sh", ROOT, LIB / "limits"])
     assert not answer.status, shown(answer)
     return list(map(int, answer.stdout.split()))
 
 
 def check_order(faults):
-    """Raises an exception if these lines of `span faults` are out of order, or are no such lines."""
-    awk(LIB / "told.awk", given=faults)
+    """Raises an exception if these lines are not lines of `span faults` in the right order."""
+    awk(LIB / "fault-order.awk", given=faults)
 
 
 def choose(target, source, faults, has):
-    """Writes to `target` the records of `source` that have one of these faults, or those that have none. Returns `target`."""
+    """Writes to `target` the records of `source` that have one of these faults, or that have none if `has` is false. Returns `target`."""
     numbers = {int(fault.split()[5]) for fault in faults}
     return write(target, *(record for at, record in enumerate(lines_of(read(source)), 1) if (at in numbers) == has))

@@ -1,4 +1,4 @@
-"""What the test suites in Python share: counting checks, running commands, and small disks.
+"""Shared code of the test suites in Python: counting checks, running commands, and small disks.
 
 A suite is a script `tests/NAME PROGRAM`. It makes one `Suite`, runs its tests with `Suite.test` or `Suite.single`, and ends with
 `sys.exit(suite.result())`, which prints `N passed, M failed` as the last line.
@@ -22,13 +22,13 @@ TIMEOUT = 120  # seconds that one command may take
 
 
 def leave(*_):
-    """Ends the suite with status 2 on HUP, INT and TERM: what it has made is removed, and the next signal does not stop that."""
+    """Ends the suite with status 2 on HUP, INT and TERM. Temporary files are removed, and another signal does not stop that."""
     for number in (signal.SIGHUP, signal.SIGINT, signal.SIGTERM):
         signal.signal(number, signal.SIG_IGN)
     sys.exit(2)
 
 
-# A command inherits the signals that are ignored, such as HUP under nohup, and a shell cannot catch these. It does not inherit a handler.
+# A command inherits ignored signals, such as HUP under nohup, and a shell cannot catch these. It does not inherit handlers.
 for each in (signal.SIGHUP, signal.SIGINT, signal.SIGTERM):
     signal.signal(each, leave)
 if signal.getsignal(signal.SIGQUIT) == signal.SIG_IGN:
@@ -36,7 +36,7 @@ if signal.getsignal(signal.SIGQUIT) == signal.SIG_IGN:
 
 
 class Answer(NamedTuple):
-    """The exit status of a command and what it printed. A signal N gives the status -N."""
+    """The exit status of a command and its output. A signal N gives the status -N."""
 
     status: int
     stdout: bytes
@@ -66,7 +66,7 @@ class Suite:
         self.check(name, found == expected, f"{shown(found)}, expected {shown(expected)}")
 
     def test(self, function, *arguments):
-        """Runs one test. An exception that leaves it is one failed check, and `Skipped` is counted apart."""
+        """Runs one test. An exception that leaves it is one failed check. `Skipped` is counted separately."""
         self.ends(function.__name__, function, self, *arguments)
 
     def single(self, name, function, *arguments, **named):
@@ -100,7 +100,7 @@ def failure(function, *arguments, **named):
         function(*arguments, **named)
     except Skipped:
         raise
-    except Exception as error:  # a test that breaks off must not end the suite
+    except Exception as error:  # an exception in a test must not end the suite
         trace, file = traceback.extract_tb(error.__traceback__), function.__code__.co_filename
         lines = ", ".join(str(frame.lineno) for frame in trace if frame.filename == file)
         return f"line {lines}: {type(error).__name__}: {error}"
@@ -160,9 +160,9 @@ def shown(value):
 
 
 def program_of(arguments, at=1):
-    """The path of a program, by default of PROGRAM, the first argument of a suite. Ends the suite with status 2 if it is not a program."""
+    """The path of a program, by default PROGRAM, the first argument of a suite. Ends the suite with status 2 if it is not a program."""
     if len(arguments) <= at or not os.path.isfile(arguments[at]) or not os.access(arguments[at], os.X_OK):
-        print(f"tests/{os.path.basename(arguments[0])}: argument {at} has to be a built program", file=sys.stderr)
+        print(f"tests/{os.path.basename(arguments[0])}: argument {at} must be a built program", file=sys.stderr)
         sys.exit(2)
     return pathlib.Path(arguments[at]).resolve()
 
@@ -178,7 +178,7 @@ def run(command, given=b"", timeout=TIMEOUT, **options):
 
 
 def awk(script, *files, given=b"", **variables):
-    """What an awk script prints, which has to succeed."""
+    """The output of an awk script, which must succeed."""
     words = [word for name, value in variables.items() for word in ("-v", f"{name}={value}")]
     answer = run(["awk", *words, "-f", script, *files], given, env={**os.environ, "LC_ALL": "C"})
     assert not answer.status and not answer.stderr, f"{script.name}: {shown(answer)}"
@@ -199,7 +199,7 @@ def room():
 
 @contextlib.contextmanager
 def started(command, **options):
-    """A command that runs beside the test with the options of `subprocess.Popen`, and is stopped when the block ends."""
+    """A command that runs concurrently with the test and is stopped when the block ends. The options are those of `subprocess.Popen`."""
     with subprocess.Popen([os.fspath(word) for word in command], **options) as process:
         try:
             yield process
@@ -220,7 +220,7 @@ def small_disk(size):
     needs("mount", "umount")
     with tempfile.TemporaryDirectory() as place:
         if run(["mount", "-t", "tmpfs", "-o", f"size={size}", "tmpfs", place]).status != 0:
-            raise Skipped("no tmpfs can be mounted, which usually takes root")
+            raise Skipped("no tmpfs can be mounted, which usually needs root")
         try:
             yield pathlib.Path(place)
         finally:

@@ -1,26 +1,27 @@
-# Writes a long position file, which several workers read in pieces, made of an accepted pair such as random-files.awk writes:
-#     LC_ALL=C awk -v seed=N -v kind=KIND [-v pieces=N] -v told=FILE -f long-files.awk PARAMS POSITIONS >LONG
-# It is long enough for so many pieces: 2, 4 or 16 at random, unless said. What `span margin` has to say of it goes to the file
-# `told`: the line of its fault, or nothing where it is accepted. That is judged here line by line, by docs/FORMATS.md, and not by
-# pieces. The set has at most 1024 contracts. With `-v kinds=1` in place of all it prints the kinds. The same seed gives the same file.
-#     plain                 lines that end in LF
+# Writes a long position file, which several workers read in pieces, made from an accepted pair such as random-files.awk writes:
+#     LC_ALL=C awk -v seed=N -v kind=KIND [-v pieces=N] -v report=FILE -f long-files.awk PARAMS POSITIONS >LONG
+# It is long enough for `pieces` pieces, by default 2, 4 or 16 at random. The line that `span margin` must report goes to the file `report`,
+# which is empty if LONG is accepted. This script finds the fault line by line, from docs/FORMATS.md, without pieces. The set may have at
+# most 1024 contracts. With `-v kinds=1` as its only argument it prints the kinds. The same seed gives the same file. The kinds:
+#     plain                 lines end in LF
 #     unended               the last line is cut somewhere
-#     crlf, ends            lines that end in CR LF; in LF, CR LF and CR at random
-#     few-feeds             lines that end in CR, and fewer LF among them than pieces
+#     crlf                  lines end in CR LF
+#     ends                  lines end in LF, CR LF or CR at random
+#     few-feeds             lines end in CR, and there are fewer LF than pieces
 #     blank                 long runs of empty lines
-#     mark                  a byte order mark at the head of the file
-#     mark-inside           one, or the first bytes of one, at the head of the line with which a piece would begin
-#     marks-inside          one at the head of each line from some line on, to another or to the end
-#     quote-first, -last    a field in double quotes in the first, in the last of the pieces that there were without it
-#     quote-cut             one with an LF in it behind which a piece would begin
-#     quote-open            one that stays open
-#     fault, faults         a record with one of Q1 to Q4 in one of the pieces, in each
+#     mark                  a byte order mark begins the file
+#     mark-inside           a byte order mark, or its first bytes, begins a line that would begin a piece
+#     marks-inside          a byte order mark begins each line in a range of lines
+#     quote-first, -last    a field in double quotes in the first, or in the last, of the pieces that the file would have without it
+#     quote-cut             a field in double quotes contains an LF after which a piece would begin
+#     quote-open            a double quote is never closed
+#     fault, faults         a record with one of Q1 to Q4 in one piece, or in each piece
 #     two-faults            two such records, in different pieces
-#     accounts              the 4097th account in the last piece
-#     accounts-behind       the same, and a fault behind it
-#     accounts-before       the same, and a fault in front of it
-#     long-lines            fewer lines than pieces, since they are long and so no records that are accepted
-#     unbound               a record of an unknown contract, or two with too many of a contract
+#     accounts              the 4097th account appears in the last piece
+#     accounts-behind       the same, with a fault after it
+#     accounts-before       the same, with a fault before it
+#     long-lines            fewer lines than pieces; the lines are too long for accepted records
+#     unbound               a record with an unknown contract, or two records whose net is over the limit
 
 function pick(low, high) { return low + int(rand() * (high - low + 1)) }
 
@@ -32,7 +33,7 @@ function repeated(text, count,    all) {
     return all
 }
 
-# --- The lines, and how they end ---
+# --- Lines and line ends ---
 
 function an_end() {
     if (kind == "crlf") return "\r\n"
@@ -48,7 +49,7 @@ function add(record) {
 
 function add_of(name) { add(name "," contract[pick(1, contracts)] "," pick(-50, 50)) }
 
-# More accounts, of which none has a name of these files: most of them few, sometimes up to 4096.
+# Adds accounts with names that these files do not have: usually a few, sometimes up to 4096 in total.
 function more_accounts(    most, form, name) {
     form = kind ~ /^accounts/ || rand() < 0.4 ? "L%d" : rand() < 0.5 ? "L-%04d" : "LONG-NAME-OF%04d"
     most = kind ~ /^accounts/ || rand() < 0.1 ? 4096 : rand() < 0.2 ? pick(accounts, 4096) : accounts + pick(1, 99)
@@ -58,7 +59,7 @@ function more_accounts(    most, form, name) {
     }
 }
 
-# Records behind those of POSITIONS, until there are so many bytes. Where accounts are counted, all of them come early.
+# Adds records after the records of POSITIONS, until there are `least` bytes. For the kinds `accounts..` all accounts appear early.
 function make_long(least,    i, j, kept) {
     more_accounts()
     if (kind ~ /^accounts/)
@@ -72,7 +73,8 @@ function make_long(least,    i, j, kept) {
 
 # --- Where the pieces begin ---
 
-# The lines with which the pieces of this file begin go into `head`, their number into `heads`. With `marked` they may begin with a mark.
+# Sets `head` to the lines with which the pieces of this file begin, and `heads` to their number. With `marked`, these lines may begin with
+# a byte order mark.
 function cut_up(marked,    i, at, from, least) {
     bytes = 0
     for (i = 1; i <= lines; i++) bytes += length(line[i]) + length(ending[i])
@@ -94,7 +96,7 @@ function is_head(i, marked,    p) {
     return 0
 }
 
-# A line of piece p: its first, its last, or any.
+# A line of piece p: the first, the last, or any line.
 function line_of(p,    from, to, place) {
     from = head[p]
     to = p < heads ? head[p + 1] - 1 : lines
@@ -104,11 +106,11 @@ function line_of(p,    from, to, place) {
 
 # --- The kinds ---
 
-# Puts a mark in front of a line with which a piece would then begin.
+# Puts a byte order mark at the beginning of a line so that a piece would begin with this line.
 function mark_a_head(    mark, i, p, unmarked) {
     mark = substr(MARK, 1, rand() < 0.7 ? 3 : pick(1, 2))
     p = pick(2, heads)
-    # (the file is longer by the mark, which may move the cut by a line)
+    # (the mark makes the file longer, which may move the cut by one line)
     for (i = head[p]; i <= head[p] + 1; i++) {
         unmarked = line[i]
         line[i] = mark unmarked
@@ -119,7 +121,7 @@ function mark_a_head(    mark, i, p, unmarked) {
     line[head[p]] = mark line[head[p]]
 }
 
-# Puts the LF behind which a piece would begin into quotes, in a field that is then no name. No line is longer or shorter by it.
+# Puts the LF after which a piece would begin into quotes. The field is then no valid name. The length of each line stays the same.
 function quote_a_cut(    i, name) {
     i = head[pick(2, heads)] - 1
     line[i] = "\"" substr(line[i], 2)
@@ -128,7 +130,8 @@ function quote_a_cut(    i, name) {
     open[i] = "Q2 BadName"
 }
 
-# Puts a field of a line into quotes; or a quote behind its first byte, which is no field in quotes; or a quote in front that stays open.
+# Puts a field of a line into quotes. With "byte" it puts one quote after the first byte of the field, which does not quote the field. With
+# "open" it puts one quote before the field, which is never closed.
 function quote(i, how,    fields, count, field) {
     count = split(line[i], fields, ",")
     field = pick(1, 3)
@@ -140,8 +143,8 @@ function quote(i, how,    fields, count, field) {
     line[i] = fields[1] "," fields[2] "," fields[3]
 }
 
-# One of Q1 to Q4.
-function spoil(i,    fault, fields) {
+# Gives a line one of the faults Q1 to Q4.
+function corrupt(i,    fault, fields) {
     fault = pick(1, 4)
     split(line[i], fields, ",")
     if (fault == 1) line[i] = rand() < 0.5 ? line[i] "," : fields[1] "," fields[2]
@@ -160,7 +163,7 @@ function long_lines(    i, count, size, long) {
         else if (rand() < 0.5) line[i] = "A," contract[1] "," repeated("1", size)
         else line[i] = repeated("A,", int(size / 2) + 1)
     }
-    # long enough, if only one of them is long
+    # (so that the file is long enough even if only one line is long)
     line[long] = line[long] repeated("1", bytes)
     lines = count
     if (rand() < 0.3) ending[lines] = ""
@@ -195,19 +198,19 @@ function change(    i, p, q, from, to) {
         if (rand() < 0.5) ending[lines] = ""
         quote(rand() < 0.3 ? lines : line_of(pick(1, heads)), "open")
     }
-    if (kind == "fault") spoil(line_of(pick(1, heads)))
-    if (kind == "faults") for (p = 1; p <= heads; p++) spoil(line_of(p))
+    if (kind == "fault") corrupt(line_of(pick(1, heads)))
+    if (kind == "faults") for (p = 1; p <= heads; p++) corrupt(line_of(p))
     if (kind == "two-faults") {
         p = pick(1, heads - 1)
         q = pick(p + 1, heads)
-        spoil(line_of(p))
-        spoil(line_of(q))
+        corrupt(line_of(p))
+        corrupt(line_of(q))
     }
     if (kind ~ /^accounts/) {
         i = pick(int(lines * 0.96), int(lines * 0.98))
         line[i] = "LAST," contract[1] ",1"
-        if (kind == "accounts-behind") spoil(pick(i + 1, lines))
-        if (kind == "accounts-before") spoil(rand() < 0.5 ? line_of(pick(1, heads - 1)) : pick(int(lines * 0.94), i - 1))
+        if (kind == "accounts-behind") corrupt(pick(i + 1, lines))
+        if (kind == "accounts-before") corrupt(rand() < 0.5 ? line_of(pick(1, heads - 1)) : pick(int(lines * 0.94), i - 1))
     }
     if (kind == "long-lines") long_lines()
     if (kind == "unbound") {
@@ -221,9 +224,9 @@ function change(    i, p, q, from, to) {
     }
 }
 
-# --- What has to be said of it ---
+# --- The expected fault ---
 
-# Which of Q1 to Q4 a record has; its fields go into `part`.
+# The fault of a record, Q1 to Q4, or nothing. Sets `part` to its fields.
 function own_fault(record,    count, field) {
     count = split(record, part, ",")
     if (index(record, "\""))
@@ -238,7 +241,7 @@ function own_fault(record,    count, field) {
 
 function is_name(text) { return text ~ /^[A-Z0-9_-]+$/ && length(text) <= 16 }
 
-# The line of the file's first fault, and nothing where there is none.
+# The line of the fault that `span margin` must report, or nothing if there is none.
 function verdict(    i, record, fault, unknown, places, place, net, of, name) {
     for (i = 1; i <= lines; i++) {
         fault = line[i]
@@ -269,7 +272,7 @@ BEGIN {
     KINDS = "plain unended crlf ends few-feeds blank mark mark-inside marks-inside quote-first quote-last quote-cut quote-open" \
         " fault faults two-faults accounts accounts-behind accounts-before long-lines unbound"
     if (kinds) print KINDS
-    else if (!index(" " KINDS " ", " " kind " ")) print "long-files.awk: " kind " is none of the kinds " KINDS >"/dev/stderr"
+    else if (!index(" " KINDS " ", " " kind " ")) print "long-files.awk: " kind " is not one of the kinds " KINDS >"/dev/stderr"
     else made = 1
     if (!made) exit
     FS = ","
@@ -291,12 +294,12 @@ FILENAME == ARGV[1] {
 }
 END {
     if (!made) exit !kinds
-    # (a line that is cut or changed is some bytes shorter)
+    # (lines that are cut or changed may be a few bytes shorter)
     make_long(pieces * 65536 + pick(99, 60000))
     cut_up()
     change()
-    printf "" >told
+    printf "" >report
     fault = verdict()
-    if (fault != "") print fault >told
+    if (fault != "") print fault >report
     for (i = 1; i <= lines; i++) printf "%s%s", line[i], ending[i]
 }

@@ -1,5 +1,6 @@
-# The lines that `span whatif` has to print of an order, by the statement of the positions and that of the same with the order's records
-# behind them: awk -v order=NAME -v account=NAME -f order.awk part=set PARAMS part=before STATEMENT part=after STATEMENT
+# Prints the lines that `span whatif` must print for an order, from the statement of the positions (before) and the statement of the
+# positions followed by the order's records (after):
+#     awk -v order=NAME -v account=NAME -f order.awk part=set PARAMS part=before STATEMENT part=after STATEMENT
 
 BEGIN { FS = "," }
 part == "set" && $1 == "SET" { set = $2; version = $3 }
@@ -7,7 +8,7 @@ part == "set" && $1 == "COMMODITY" { commodity[++commodities] = $2 }
 part != "set" && $1 == "R" && $2 == account { requirement[part, $4] = $11 }
 part != "set" && $1 == "T" && $2 == account { total[part] = $4; due[part] = $6 }
 
-# What is before, what after, and the difference; what no statement has is 0.
+# The figure before, the figure after, and the difference. A figure that a statement lacks is 0.
 function change(before, after) { return sprintf("%.0f,%.0f,%.0f", before, after, after - before) }
 
 END {

@@ -1,19 +1,19 @@
-# Writes a random pair of files with faults, made of an accepted pair such as random-files.awk writes:
-# awk -v seed=N -v params=FILE -v positions=FILE -f random-faults.awk PARAMS POSITIONS
-# The parameters have some faults of reading, or break some rules, or have none; the positions have some faults of reading, or of binding,
-# or have none. No field is quoted and no line is empty, so record N is line N. Where the first record of the parameters is in order, the
-# files without the records that have a fault of reading have none. The same seed gives the same files.
+# Writes a random pair of files with faults, made from an accepted pair such as random-files.awk writes:
+#     awk -v seed=N -v params=FILE -v positions=FILE -f random-faults.awk PARAMS POSITIONS
+# The parameters have read faults, violate rules, or have no fault. The positions have read faults, binding faults, or no fault. No field is
+# quoted and no line is empty, so record N is line N. If the first record of the parameters has no fault, the files have no read fault once
+# the records with a read fault are removed. The same seed gives the same files.
 
 function pick(low, high) { return low + int(rand() * (high - low + 1)) }
 
-# Puts a record into a list, behind the place `at`, and gives the new number of records.
+# Inserts a record into a list after index `at`, and returns the new number of records.
 function insert(list, count, at, record,    i) {
     for (i = count; i > at; i--) list[i + 1] = list[i]
     list[at + 1] = record
     return count + 1
 }
 
-# Puts a record somewhere behind the SET; somewhere among the positions.
+# Inserts a record somewhere after the SET, or somewhere in the positions.
 function add(record) { sets = insert(set, sets, pick(1, sets), record) }
 function add_position(record) { held = insert(position, held, pick(0, held), record) }
 
@@ -23,8 +23,8 @@ function joined(fields, count,    i, text) {
     return text
 }
 
-# A record of the parameters with the fault of this number, P3 to P7, if it has none with a lower one.
-function spoiled(record, fault,    fields, count, kind, number) {
+# A parameter record with the fault of this number, P3 to P7, unless it has a fault with a lower number.
+function corrupted(record, fault,    fields, count, kind, number) {
     count = split(record, fields, ",")
     kind = fields[1]
     number = kind == "CONTRACT" ? 5 : kind == "SPOT" ? 4 : kind == "INTER" ? 2 : 3
@@ -36,22 +36,22 @@ function spoiled(record, fault,    fields, count, kind, number) {
     return joined(fields, count)
 }
 
-# P1 to P8: of some records one, of some several. Sometimes a commodity has as many spot months as it may, and one more.
-function spoil_params(    i, at, spots) {
+# P1 to P8: some records have one fault, some several. Sometimes a commodity has one spot month over the limit.
+function corrupt_params(    i, at, spots) {
     if (rand() < 0.3) {
         for (i = 1; i <= sets; i++) spots += set[i] ~ /^SPOT,C1,/
         for (; spots < 17; spots++) add("SPOT,C1," 204001 + 100 * spots ",0,0")
     }
     for (i = pick(0, 8); i > 0; i--) {
         at = pick(2, sets)
-        set[at] = spoiled(set[at], pick(3, 7))
+        set[at] = corrupted(set[at], pick(3, 7))
     }
     if (rand() < 0.2) add(set[1])
-    if (rand() < 0.2) set[1] = spoiled(set[1], pick(3, 7))
+    if (rand() < 0.2) set[1] = corrupted(set[1], pick(3, 7))
     if (rand() < 0.05) sets = 0
 }
 
-# C1 to C11, each by some records or by none.
+# C1 to C11: each rule is violated by some records or by none.
 function break_rules(c) {
     if (rand() < 0.3) add("COMMODITY," c ",0,SUM")
     if (rand() < 0.3) add("SPOT,NONE,204001,0,0")
@@ -68,8 +68,8 @@ function break_rules(c) {
     if (rand() < 0.3) { add("SPOT," c ",203301,0,0"); add("SPOT," c ",203301,0,0") }
 }
 
-# Q1 to Q4, of some records several. Sometimes Q5 too: as many accounts as there may be, and one more.
-function spoil_positions(    i, at, fault, fields, accounts, seen) {
+# Q1 to Q4: some records have several faults. Sometimes also Q5: one account over the limit.
+function corrupt_positions(    i, at, fault, fields, accounts, seen) {
     if (held == 0) position[++held] = "A1,K1,1"
     for (i = pick(1, 8); i > 0; i--) {
         at = pick(1, held)
@@ -89,7 +89,8 @@ function spoil_positions(    i, at, fault, fields, accounts, seen) {
     for (; accounts < 4097; accounts++) position[++held] = "B" accounts ",K1,0"
 }
 
-# B1 to B3: unknown contracts, nets over the limit of several records, sometimes an account with one contract more than it may hold.
+# B1 to B3: unknown contracts, nets over the limit that are the sum of several records, sometimes an account with one contract over the
+# limit.
 function unbind(    i, name) {
     for (i = pick(0, 6); i > 0; i--) add_position("A" pick(1, 9) ",L" pick(1, 3) "," pick(-200000, 200000))
     for (i = pick(0, 4); i > 0; i--) {
@@ -102,7 +103,7 @@ function unbind(    i, name) {
         set[++sets] = "CONTRACT,M" i ",C1,F,202501,1,1,0,0,0,0,0,0,0,0,0,0,0,0,0,0,0,0" (version == 2 ? ",0" : "")
         add_position("A1,M" i ",1")
     }
-    # sometimes all but one
+    # sometimes one of them has a net of 0
     if (rand() < 0.3) add_position("A1,M7,-1")
 }
 
@@ -121,8 +122,8 @@ FILENAME == ARGV[1] {
 
 END {
     kind = pick(1, 3)
-    if (rand() < 0.5) spoil_positions(); else if (rand() < 0.9) unbind()
-    if (kind == 1) spoil_params()
+    if (rand() < 0.5) corrupt_positions(); else if (rand() < 0.9) unbind()
+    if (kind == 1) corrupt_params()
     if (kind == 2) break_rules(commodity)
     printf "" > params
     printf "" > positions

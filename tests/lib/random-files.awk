@@ -1,10 +1,10 @@
 # Writes a random pair of accepted files, of either version: awk -v seed=N -v params=FILE -v positions=FILE -f random-files.awk
-# With -v orders=FILE also accepted orders on them, some of them of accounts that the positions do not have. The same seed gives the
+# With -v orders=FILE it also writes accepted orders for them, some for accounts that the positions do not have. The same seed gives the
 # same files.
 
 function pick(low, high) { return low + int(rand() * (high - low + 1)) }
 
-# Exchanges the first `count` members of `order` at random.
+# Shuffles the first `count` members of `order`.
 function shuffle(order, count,    i, j, kept) {
     for (i = count; i > 1; i--) {
         j = pick(1, i)
@@ -12,7 +12,7 @@ function shuffle(order, count,    i, j, kept) {
     }
 }
 
-# A decimal of up to four places.
+# A decimal with up to four places.
 function decimal(most,    text) {
     text = pick(0, most)
     return rand() < 0.5 ? text : text "." sprintf("%04d", pick(0, 9999))
@@ -37,7 +37,7 @@ function contract(c,    kind, delta, values, i, size) {
     print "CONTRACT,K" contracts ",C" c "," kind "," month(pick(0, months - 1)) "," delta "," ratio() values > params
 }
 
-# Tiers of one to four months each, one behind the other.
+# Tiers of one to four months each, in ascending order.
 function tiers_of(c,    at, last) {
     tiers[c] = 0
     at = pick(0, 2)
@@ -49,7 +49,7 @@ function tiers_of(c,    at, last) {
     }
 }
 
-# Legs on different tiers or commodities, of both sides: the first one on A, the second on B.
+# Legs on different tiers or commodities, on both sides: the first leg on A, the second on B.
 function legs(letter, count,    i, n, order, text) {
     n = pick(2, count < 4 ? count : 4)
     for (i = 1; i <= count; i++) order[i] = i

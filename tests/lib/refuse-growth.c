@@ -1,6 +1,6 @@
 /*
- * Refuses one growth of memory of the program that it is loaded into (LD_PRELOAD): the one whose number, counted over all
- * threads from 1, stands in REFUSE_GROWTH. It then makes the file that REFUSED_MARK names. tests/memory builds and uses it.
+ * Makes one allocation fail in the program into which it is loaded (LD_PRELOAD): the one whose number, counted from 1 over all
+ * threads, is REFUSE_GROWTH. It then creates the file that REFUSED_MARK names. tests/memory builds and uses it.
  */
 #include <errno.h>
 #include <fcntl.h>
