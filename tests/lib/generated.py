@@ -84,7 +84,7 @@ class Program:
 
 
 def random_files(seed):
-    """Writes PARAMS, POSITIONS and ORDERS, all of which are accepted."""
+    """Writes PARAMS, POSITIONS and ORDERS. All are accepted."""
     awk(LIB / "random-files.awk", seed=seed, params=PARAMS, positions=POSITIONS, orders=ORDERS)
 
 

@@ -199,7 +199,7 @@ def room():
 
 @contextlib.contextmanager
 def started(command, **options):
-    """A command that runs concurrently with the test and is stopped when the block ends. The options are those of `subprocess.Popen`."""
+    """A command that runs concurrently with the test, with the options of `subprocess.Popen`. It is stopped when the block ends."""
     with subprocess.Popen([os.fspath(word) for word in command], **options) as process:
         try:
             yield process

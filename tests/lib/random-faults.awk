@@ -89,8 +89,7 @@ function corrupt_positions(    i, at, fault, fields, accounts, seen) {
     for (; accounts < 4097; accounts++) position[++held] = "B" accounts ",K1,0"
 }
 
-# B1 to B3: unknown contracts, nets over the limit that are the sum of several records, sometimes an account with one contract over the
-# limit.
+# B1 to B3: unknown contracts, pairs of records whose net is over the limit, sometimes an account with one contract over the limit.
 function unbind(    i, name) {
     for (i = pick(0, 6); i > 0; i--) add_position("A" pick(1, 9) ",L" pick(1, 3) "," pick(-200000, 200000))
     for (i = pick(0, 4); i > 0; i--) {
