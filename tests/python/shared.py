@@ -1,4 +1,4 @@
-"""What the tests of the package share: the example files, directories, and programs that stand in for span."""
+"""Shared code of the tests of the package: the example files, directories, and programs that stand in for span."""
 import os
 import stat
 import tempfile
@@ -39,7 +39,7 @@ def lines_of(path: Union[str, Path]) -> List[str]:
 
 
 class Case(unittest.TestCase):
-    """A test in a new working directory, `self.room`, which is removed behind it."""
+    """A test in a new working directory, `self.room`, which is removed after the test."""
 
     def setUp(self) -> None:
         room = tempfile.TemporaryDirectory()
@@ -49,13 +49,13 @@ class Case(unittest.TestCase):
         self.room = Path(room.name)
 
     def use(self, **variables: str) -> None:
-        """Sets variables of the environment until the test ends."""
+        """Sets environment variables until the test ends."""
         patch = mock.patch.dict(os.environ, variables)
         patch.start()
         self.addCleanup(patch.stop)
 
     def use_temporary_directory(self) -> Path:
-        """Makes a new directory the one for temporary files, and returns it."""
+        """Makes a new directory for temporary files, and returns it."""
         place = self.room / "temporary"
         place.mkdir()
         patch = mock.patch.object(tempfile, "tempdir", str(place))
@@ -64,7 +64,7 @@ class Case(unittest.TestCase):
         return place
 
     def use_program(self, script: str, version: str = "1.3.0") -> Path:
-        """Puts a shell script in the place of span. `$SPAN_REAL` in it is the built program."""
+        """Replaces span by a shell script, in which `$SPAN_REAL` is the built program."""
         path = self.room / "stand-in"
         path.write_text(f'#!/bin/sh\n[ "$1" = --version ] && echo "span {version} (stand-in)" && exit\n{script}\n', encoding="utf-8")
         path.chmod(path.stat().st_mode | stat.S_IXUSR)
@@ -72,7 +72,7 @@ class Case(unittest.TestCase):
         return path
 
     def error(self, kind: Type[Error], call: Any, *arguments: Any, **named: Any) -> Error:
-        """The error of exactly this class that a call raises."""
+        """The error of exactly this class, which a call raises."""
         with self.assertRaises(kind) as caught:
             call(*arguments, **named)
         self.assertIs(type(caught.exception), kind)

@@ -1,4 +1,4 @@
-"""Calls that run the program once: their results have the figures that span prints, whatever a file is given as."""
+"""Calls that run the program once: their results have the figures that span prints, for all forms of input."""
 import dataclasses
 import json
 import os
@@ -165,7 +165,7 @@ class Results(Case):
 
 
 class Bytes:
-    """An object with a content."""
+    """An object with content."""
 
     def __bytes__(self) -> bytes:
         return POSITIONS.read_bytes()

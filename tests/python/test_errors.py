@@ -1,4 +1,4 @@
-"""Errors: each status and each form of a fault line, files that cannot be read, and programs that are not the right one."""
+"""Errors: each status and each form of a fault line, files that cannot be read, and wrong programs."""
 import os
 import pickle
 import shutil
@@ -86,7 +86,7 @@ class Statuses(Case):
 
 class Files(Case):
     def reason(self, name: str) -> str:
-        """Why a file cannot be read, which is the same as a parameter file, a position file, and for a session."""
+        """Why a file cannot be read. The reason is the same for a parameter file, a position file, and a session."""
         errors = [self.error(span.FileError, call, *files) for call, files in (
             (span.margin, (PARAMS, name)), (span.margin, (name, POSITIONS)), (span.faults, (name,)), (span.Session, (PARAMS, name)))]
         for error in errors:

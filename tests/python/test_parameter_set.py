@@ -1,4 +1,4 @@
-"""ParameterSet: the file that it makes of rows, and the row that each mistake is reported at."""
+"""ParameterSet: the file that it makes from rows, and the row at which each mistake is reported."""
 import csv
 import math
 import os
@@ -60,7 +60,7 @@ def faults_of(parameters: ParameterSet) -> List[Found]:
 
 
 class Built(unittest.TestCase):
-    """Each kind of rows gives the file of the example, byte for byte."""
+    """All kinds of rows give the file of the example, byte for byte."""
 
     expected = PARAMS.read_bytes()
 
@@ -85,7 +85,7 @@ class Built(unittest.TestCase):
                 database.execute(f"create table {table}({', '.join(columns)})")
                 places = ", ".join("?" * len(columns))
                 database.executemany(f"insert into {table} values({places})", [[row[it] for it in columns] for row in rows])
-                # another order of the columns: they count by name
+                # a different order of columns, since columns are found by name
                 tables[table] = database.execute(f"select {', '.join(reversed(columns))} from {table}").fetchall()
         self.assertEqual(of_desk(tables).to_bytes(), self.expected)
 
@@ -134,7 +134,7 @@ MONTHS_OF_2030 = {"first_month": "203001", "last_month": "203012"}
 
 
 class Mistake(NamedTuple):
-    """A mistake in the tables of the desk, and its fault: cells that a row has in place of its own, or a row more."""
+    """A mistake in the tables of the desk, and its fault: cells that replace cells of a row, or an additional row."""
 
     about: str
     table: str
@@ -203,10 +203,10 @@ class Mistakes(unittest.TestCase):
                 self.assertEqual(faults_of(of_desk(tables)), [(it.table, it.row, it.code, it.field, value)])
 
     def test_each_column_with_texts_that_it_may_not_have(self) -> None:
-        """The forms and ranges that find the column of a fault are those of the program."""
+        """The package finds the column of a fault with the same forms and ranges as the program."""
         examples, tables = records(VALUE), tables_of(2)
         for text in TEXTS:
-            # (a set with a fault of reading has its faults of reading alone)
+            # (for a set with read faults, only these are reported)
             parameters, expected = ParameterSet("D1", "usd", version=2), [("set", 1, "P5", "currency")]
             for name, rows in examples.items():
                 columns = list(tables[name].columns.items())[: len(rows[0])]
@@ -215,7 +215,7 @@ class Mistakes(unittest.TestCase):
                     expected += [(name, row, code, column) for code in ("P5", "P6", "P7") if form.has(code, text)]
             with self.subTest(text):
                 found = [(table, row, fault[:2], column) for table, row, fault, column, _ in faults_of(parameters)]
-                # (that the value of a future is 0 is a rule about two columns)
+                # (the rule that the value of a future is 0 involves two columns)
                 self.assertEqual([it for it in found if it[3] != "value"], [it for it in expected if it[3] != "value"])
 
     def test_mistakes_of_several_tables_at_once(self) -> None:
@@ -296,7 +296,7 @@ class Mistakes(unittest.TestCase):
 
 
 class Refused(unittest.TestCase):
-    """What cannot be a record is an error of the call that adds it, and nothing of that call is added."""
+    """A value that cannot be a record is an error of the call that adds it, and that call adds nothing."""
 
     def refused(self, kind: Any, text: str, method: str, rows: Any, version: int = 1, **options: Any) -> None:
         parameters = ParameterSet("D1", "USD", version=version)
@@ -354,7 +354,7 @@ class Refused(unittest.TestCase):
 
 
 class Values(unittest.TestCase):
-    """The text that a field of the file has for a value."""
+    """The text in a field of the file for a value."""
 
     def commodity(self, rate: Any, **options: Any) -> str:
         """The minimum rate in the file."""
@@ -373,7 +373,7 @@ class Values(unittest.TestCase):
         self.assertEqual(self.ratio(7), "7")
         for value, text in ("0.2920", "0.2920"), ("1E+2", "100"), ("1E-4", "0.0001"):
             self.assertEqual(self.ratio(Decimal(value)), text)
-        self.assertEqual(self.commodity(Decimal("6000.00")), "6000.00")  # (which the program refuses: it may be dollars)
+        self.assertEqual(self.commodity(Decimal("6000.00")), "6000.00")  # (the program rejects it, since it may be dollars)
 
     def test_amounts_in_minor_units(self) -> None:
         for value, text in (
@@ -412,7 +412,7 @@ class Values(unittest.TestCase):
 
 
 class HostileText(unittest.TestCase):
-    """A text that no name has is one field of one record: the fault is at its row, and the other rows are what they are."""
+    """A text that is not a valid name is one field of one record: the fault is at its row, and the other rows are unchanged."""
 
     def test_names(self) -> None:
         for text in (
@@ -457,7 +457,7 @@ class HostileText(unittest.TestCase):
 
 
 class Written(Case):
-    """What `write` leaves in a directory."""
+    """The files that `write` leaves in a directory."""
 
     def setUp(self) -> None:
         super().setUp()

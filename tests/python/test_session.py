@@ -13,12 +13,12 @@ from typing import Any, Dict, List, Optional
 import span_margin as span
 from shared import FAULTY_PARAMS, NEXT, ORDERS, PARAMS, POSITIONS, VALUE, Case, lines_of
 
-MANY = 10000  # orders that are tried at once
+MANY = 10000  # orders that one call evaluates
 CONTRACTS = ("CLZ5", "CLF6", "HOZ5", "ZCZ5", "RBH6")
 
 
 class SessionCase(Case):
-    """A test that opens sessions, which are closed behind it."""
+    """A test that opens sessions, which are closed after the test."""
 
     def session(self, params: Any = PARAMS, positions: Any = POSITIONS, **named: Any) -> span.Session:
         desk = span.Session(params, positions, **named)
@@ -213,7 +213,7 @@ class Refused(SessionCase):
     def test_names_of_sets(self) -> None:
         place = self.use_temporary_directory()
         desk = self.session()
-        # (the last one is too long for a request, and for the system if it is not relative)
+        # (the last path is too long for a request, and for the system if it is not relative)
         deep = "/".join(["d" * 253] * 16)
         os.makedirs(deep)
         for name in ("a,b", "-", "a b", "a\nb", "a\r", "ä", os.fsdecode(b"\xff"), f"{deep[:2000]}x", f"{deep}/set.csv"):
