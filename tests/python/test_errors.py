@@ -80,8 +80,9 @@ class Statuses(Case):
         for call, arguments in ((span.margin, (PARAMS, b"Y,NONE,2")), (span.check, ("missing",)), (span.check, (FAULTY_PARAMS,))):
             with self.assertRaises(span.SpanError) as caught:
                 call(*arguments)
-            again = pickle.loads(pickle.dumps(caught.exception))
-            self.assertEqual((type(again), str(again), vars(again)), (type(caught.exception), str(caught.exception), vars(caught.exception)))
+            raised = caught.exception
+            again = pickle.loads(pickle.dumps(raised))
+            self.assertEqual((type(again), str(again), vars(again)), (type(raised), str(raised), vars(raised)))
 
 
 class Files(Case):

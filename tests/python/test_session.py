@@ -186,7 +186,8 @@ class Refused(SessionCase):
     def test_hostile_names(self) -> None:
         desk = self.session()
         before = desk.positions()
-        for name in ("", "a", "A B", "Ä", "\ud800", "A\0", '"A"', "SEVENTEEN-LETTERS", "A,CLZ5,1", "A\n", "A\r", "A\nMARGIN", "A\r\nPOSITIONS", ","):
+        names = "", "a", "A B", "Ä", "\ud800", "A\0", '"A"', "SEVENTEEN-LETTERS", "A,CLZ5,1", "A\n", "A\r", "A\nMARGIN", "A\r\nPOSITIONS", ","
+        for name in names:
             with self.subTest(ascii(name)):
                 self.refused("X4", 2, desk.margin, name)
                 self.refused("X4", 2, desk.explain, name)
