@@ -1,4 +1,4 @@
-"""What the tools read: pages, the crates, and the items of files of definitions (.antt) and of code (.rt)."""
+"""Shared by the tools: reads pages, crates.txt, and the items of files of definitions (.antt) and of files of code (.rt)."""
 import os
 import re
 import sys
@@ -12,12 +12,12 @@ def text_of(path):
 
 
 def to_root():
-    """Makes the repository's folder the current one, in which all paths are told."""
+    """Changes to the directory of the repository. All paths are relative to it."""
     os.chdir(os.path.join(os.path.dirname(os.path.abspath(__file__)), ".."))
 
 
 def write_or_check(path, text, tool, words):
-    """Writes a page that a tool makes; with --check it says whether the page is up to date. Answers the status."""
+    """Writes a page that a tool makes, or with --check says whether the page is up to date. Returns the exit status."""
     if words not in ([], ["--check"]):
         print(f"usage: {tool} [--check]", file=sys.stderr)
         return 2
@@ -27,7 +27,7 @@ def write_or_check(path, text, tool, words):
         return 0
     same = os.path.isfile(path) and text_of(path) == text
     if not same:
-        print(f"{path} is not what {tool} writes: call it, and commit the page")
+        print(f"{path} is not up to date: call {tool}, and commit the page")
     print("1 passed, 0 failed" if same else "0 passed, 1 failed")
     return 0 if same else 1
 
@@ -39,7 +39,7 @@ def prose_of(text):
 
 
 def headings_of(text):
-    """The headings of a page: how many `#` begin each one, its words, and what a link has behind `#` to lead to it."""
+    """The headings of a page: the level of each one, its text, and the anchor that links use for it."""
     found, seen = [], {}
     for level, words in re.findall(r"^(#+) +(.*)$", prose_of(text), re.M):
         anchor = re.sub(r"[^\w -]", "", words.strip().lower()).replace(" ", "-")
@@ -49,7 +49,7 @@ def headings_of(text):
 
 
 def crates(in_file_order=False):
-    """The crates by crates.txt, each behind those that it uses: name, comment above it, names that it uses."""
+    """The crates of crates.txt, each after the crates that it uses: name, comment above it, and names of the crates that it uses."""
     found, comment, order = {}, "", []
     for line in text_of("crates.txt").splitlines():
         head, colon, uses = line.partition("#")[0].partition(":")
@@ -70,25 +70,25 @@ def crates(in_file_order=False):
     return [(name, *found[name]) for name in order]
 
 
-def files_of(folder, ending):
-    """The paths of the files of a folder and of those in it, sorted."""
+def files_of(directory, ending):
+    """The paths of the files with this ending in a directory and below it, sorted."""
     found = []
-    for place, folders, names in os.walk(folder):
-        folders[:] = [it for it in folders if it != "out"]
+    for place, below, names in os.walk(directory):
+        below[:] = [it for it in below if it != "out"]
         found.extend(os.path.join(place, name) for name in names if name.endswith(ending))
     return sorted(found)
 
 
-# ---- files of definitions
+# --- Files of definitions ---
 
 
 def comment_free(text):
-    """A text of definitions without its comments."""
+    """The text of a file of definitions without its comments."""
     return re.sub(r"(?m)(^|\s)--.*$", r"\1", text)
 
 
 class Definition:
-    """An item of a file: its name, its lines with the comment above it, and its words without comments."""
+    """An item of a file: its name, how many lines it has with the comment above it, and its text without comments."""
 
     def __init__(self, path, name, lines, words):
         self.path, self.name, self.lines, self.words = path, name, lines, words
@@ -103,7 +103,7 @@ DECLARES = re.compile(r"^ *(?:abbrev|unfoldable|pub)\b|^ *[A-Za-z_][\w']*(?:\s+\
 
 
 def imports_of(text):
-    """What a text imports: of each name its module and its name there; of each alias its module; what is handed on."""
+    """What a text imports: the module of each name and its name there, the module of each alias, and what `pub use` exports again."""
     names, aliases, handed_on = {}, {}, []
     for match in USE.finditer(text):
         handed, module, listed, alias = match.groups()
@@ -122,7 +122,7 @@ def imports_of(text):
 
 
 class DefinitionFile:
-    """A file of definitions: its items by name, a constructor and a field of `data` by the name of its type."""
+    """A file of definitions: its items by name. `of_data` has the type of each constructor and field of a `data`."""
 
     def __init__(self, path):
         self.path = path
@@ -148,7 +148,7 @@ class DefinitionFile:
             at += 1
 
     def _item(self, lines, at, above, module):
-        """Reads the item that begins at a line, with its clauses, and answers where the next one begins."""
+        """Reads the item that begins at a line, with its clauses. Returns the line at which the next item begins."""
         indent, kind, name = HEAD.match(lines[at]).groups()
         end = at + 1
         while end < len(lines) and not re.match(r"\s*$|module\b|use\b", lines[end]):
@@ -167,7 +167,7 @@ class DefinitionFile:
         return end
 
 
-# ---- files of code
+# --- Files of code ---
 
 RUST_USE = re.compile(r"^(?:pub(?:\(\w+\))? )?use ((?:[^;{]|\{[^;]*\})*);", re.M)
 ITEM = re.compile(r"^(?:pub(?:\(\w+\))? )?(?:const )?(struct|enum|const|static|trait|type|fn) (\w+)", re.M)
@@ -175,7 +175,7 @@ CLAUSE = re.compile(r"\b(requires|ensures)(?:\s+(\w+))?\s*$")
 
 
 def rust_paths(text):
-    """Of a tree of paths, as behind `use`, each path with the name that it brings."""
+    """The paths in the tree of a `use`, each with the name that it declares."""
     text = re.sub(r"\s+", " ", text.strip())
     match = re.fullmatch(r"(.*?)\{(.*)\}", text)
     if not match:
@@ -194,7 +194,8 @@ def rust_paths(text):
 
 
 def end_of_header(text, start):
-    """Where the body of a function begins, or its header ends; and its clauses: word, name, text."""
+    """Returns where the body of a function begins (or its header ends), its clauses, and where the first clause begins. A clause is its
+    keyword, its name and its text."""
     depth, at, clauses, opened, head = 0, start, [], None, None
     while at < len(text):
         letter = text[at]
@@ -220,7 +221,7 @@ def end_of_header(text, start):
 
 
 def closing(text, at):
-    """Where the bracket that stands at a place is closed."""
+    """The index of the bracket that closes the bracket at an index."""
     depth = 0
     while at < len(text):
         if text[at] == '"':
@@ -233,7 +234,7 @@ def closing(text, at):
 
 
 class Function:
-    """A function: its name, its comment, its signature, that with its clauses, these, and whether it is public."""
+    """A function. `header` is its signature with its clauses."""
 
     def __init__(self, at, name, doc, signature, header, clauses, public, owner):
         self.at, self.name, self.doc, self.clauses = at, name, doc, clauses
@@ -242,7 +243,7 @@ class Function:
 
 
 def above(text, start):
-    """The lines of comments and attributes right above a place."""
+    """The lines of comments and attributes directly above an index."""
     lines = text[:start].split("\n")[:-1]
     first = len(lines)
     while first and re.match(r"\s*(///|#\[|//[^/!])", lines[first - 1]):
@@ -251,12 +252,12 @@ def above(text, start):
 
 
 def doc_of(lines):
-    """The words of the comment for users among such lines."""
+    """The lines of the comment for users (`///`) among such lines."""
     return [re.sub(r"^\s*/// ?", "", line) for line in lines if re.match(r"\s*///", line)]
 
 
 class CodeFile:
-    """A file of code: its types and constants by name, its functions, and what it imports."""
+    """A file of code: its types and constants by name, its functions, and its imports."""
 
     def __init__(self, path, crate, module):
         self.path, self.crate, self.module = path, crate, module
@@ -288,7 +289,7 @@ class CodeFile:
         body = self.text[match.start() : end + 1]
         comments = above(self.text, match.start())
         lines = len(body.splitlines()) + len(comments)
-        # of a type with a Model a clause sees the Model's Value, and neither the fields nor the invariant
+        # If a type has a Model, clauses see the Model's Value, and neither the fields nor the invariant.
         if name in self.models:
             value = re.search(r"ghost Value = (\{.*?\});", self.models[name], re.S)
             lines = len(comments) + 1 + len(value.group(1).splitlines())
@@ -305,12 +306,12 @@ class CodeFile:
         self.items[name].text = self.text[match.start() : end + 1]
 
     def traits(self):
-        """The public traits of the file: place, name, first line, comment."""
+        """The public traits of the file: index, name, first line, comment."""
         for match in re.finditer(r"^pub trait (\w+)[^{]*", self.text, re.M):
             yield match.start(), match.group(1), match.group(0).strip(), doc_of(above(self.text, match.start()))
 
     def functions(self):
-        """The functions of the file in their order, also those of impl blocks and of traits, without inner ones."""
+        """The functions of the file in their order, also of impl blocks and traits, but not functions inside of functions."""
         owners = []
         for match in re.finditer(r"^(?:unsafe )?(?:impl\b|(?:pub(?:\(\w+\))? )?trait )[^{]*", self.text, re.M):
             opened = self.text.index("{", match.end() - 1)
@@ -324,14 +325,14 @@ class CodeFile:
             signature, header = (
                 re.sub(rf"(?m)^{indent}", "", self.text[begin:last].rstrip()) for last in (head, end)
             )
-            # clauses in the impl of a trait are a method's own, in place of the trait's
+            # A method in the impl of a trait counts as public if it has clauses of its own in place of the clauses of the trait.
             public = match.group(2) == "pub " or re.match(r"pub trait |impl.* for " if clauses else "pub trait ", owner or "")
             doc = doc_of(above(self.text, match.start()))
             yield Function(begin, match.group(3), doc, signature, header, clauses, public, owner)
 
 
 class Sources:
-    """All files, read once each."""
+    """The files of the crates. Each is read once."""
 
     def __init__(self):
         self.crates = {name: uses for name, _, uses in crates()}
@@ -344,7 +345,7 @@ class Sources:
         return self.read[path]
 
     def code(self, crate, module):
-        """The file of a module of a crate; none where it has no such file."""
+        """The file of a module of a crate, or None if there is no such file."""
         base = "/".join([f"crates/{crate}/src", *module])
         roots = [f"{base}/lib.rt", f"{base}/main.rt"] if not module else [f"{base}.rt", f"{base}/mod.rt"]
         for path in roots:
@@ -362,10 +363,10 @@ class Sources:
                 return False
         return True
 
-    # ---- names of definitions
+    # --- Names of definitions ---
 
     def definition(self, module, name, seen=()):
-        """The item that a name of a module of definitions is; none where it is the kit's."""
+        """The item that a name of a module of definitions stands for, or None if it belongs to the toolchain."""
         parts = module.split(".")
         if len(parts) < 3 or parts[1] not in self.crates or (module, name) in seen:
             return None
@@ -375,7 +376,7 @@ class Sources:
             return found
         file = self.definitions(f"crates/{crate}/specs/" + "/".join(where) + ".antt")
         if not file:
-            # a module that an index hands on from another crate
+            # An index exports a module of another crate.
             index = self.definitions("/".join([f"crates/{crate}/specs", *(where[:-1] or ["Lib"])]) + ".antt")
             index = index or self.definitions(f"crates/{crate}/specs/Lib.antt")
             for other, listed in index.handed_on if index else ():
@@ -392,14 +393,14 @@ class Sources:
         return None
 
     def declared(self, crate, where, name):
-        """The type or constant of the code that a name of `declared` is; of a variant or a field its type."""
+        """The type or constant of the code that a name in `declared` stands for. For a variant or a field, its type."""
         module = [it for it in where if it[0].islower()]
         owners = [it for it in where if it[0].isupper() and not it.startswith("The")]
         file = self.code(crate, module)
         return file.items.get(owners[0] if owners else name) if file else None
 
     def code_item(self, file, name, seen=()):
-        """The type or constant that a name of a file of code is; none where it is of the kit, a trait or built in."""
+        """The type or constant that a name in a file of code stands for. None for a trait, and for what is built in or of the toolchain."""
         if name in file.items:
             return file.items[name]
         where = file.uses.get(name)
