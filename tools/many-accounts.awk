@@ -1,11 +1,12 @@
-# Writes a set of realistic size and the positions of many accounts under it, both accepted but for their number of accounts:
-#     awk -v accounts=N -v params=FILE -v positions=FILE [-v version=2] -f many-accounts.awk
-# The set has 64 commodities of 24 contracts, 6 tiers, 12 spreads and 2 spot months, and 64 spreads between commodities. An
-# account has 8 to 20 records. One in three has some of its records behind those of later accounts, and one in a thousand at the
-# very end of the file. Names of accounts are of different lengths, one the beginning of another, and not in the order of the
-# file. The same numbers give the same files under every awk: no `rand` is used. N is up to 1000002.
+# usage: awk -v accounts=N -v params=FILE -v positions=FILE [-v version=2] -f many-accounts.awk
+#
+# Writes a parameter set of realistic size, and the positions of N accounts, at most 1000002. span accepts both if it accepts so many
+# accounts. The set has 64 commodities with 24 contracts, 6 tiers, 12 spreads and 2 spot months each, and 64 spreads between commodities.
+# An account has 8 to 20 records. One account in three has some of its records after records of later accounts, and one in a thousand has
+# some at the very end of the file. The names of accounts have different lengths, some begin with another name, and they are not sorted.
+# The same arguments give the same files under every awk, since `rand` is not used.
 
-# A number of low to high.
+# A pseudo-random number from low to high.
 function pick(low, high) {
     state = (state * 16807) % 2147483647
     return low + state % (high - low + 1)
@@ -13,7 +14,7 @@ function pick(low, high) {
 
 function month(k) { return 202512 + (k > 0 ? 88 + k : 0) }
 
-# Month m of commodity c: a future, a call and a put. A long future loses where prices fall.
+# Writes month m of commodity c: a future, a call and a put. A long future loses if prices fall.
 function contracts_of(c, m,    kind, k, i, range, delta, values, move, loss) {
     range = 40000 + c * 2500 - m * 1500
     for (k = 1; k <= 3; k++) {
@@ -41,7 +42,7 @@ BEGIN {
         for (m = 0; m < 8; m++) contracts_of(c, m)
         for (t = 1; t <= 6; t++)
             printf "TIER,C%02d,%d,%d,%d\n", c, t, month(t - 1), month(t == 6 ? 7 : t - 1) >params
-        # butterflies, then neighbours, then those one further apart, and within the last tier
+        # butterflies, then spreads of neighbouring tiers, then of tiers that are two apart, then one within the last tier
         for (s = 1; s <= 3; s++)
             printf "INTRA,C%02d,%d,%d,%d,A,1,%d,B,2,%d,A,1\n", c, s, 9000 + 100 * s, s, s + 1, s + 2 >params
         for (s = 4; s <= 8; s++)
