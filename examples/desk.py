@@ -1,20 +1,20 @@
 #!/usr/bin/env python3
 """usage: desk.py PARAMS POSITIONS ACCOUNT
 
-Finds the trade of one contract that frees the most margin of an account, and books it. It shows how a desk uses the package span_margin:
-a session that stays open, many orders that are tried at once, a fill, and errors. It changes no file.
+Finds the trade of one contract that frees the most margin of an account, and books it in the session. It shows how a desk uses the package
+span_margin: a session that stays open, many orders that are evaluated at once, a fill, and errors. It changes no file.
 """
 import sys
 from typing import List, NamedTuple
 
 import span_margin as span
 
-DIGITS = 2  # of the minor unit: 100 cents are a dollar
-SHOWN = 5  # trades that are printed
+DIGITS = 2  # decimals of an amount in dollars: 100 cents are a dollar
+SHOWN = 5  # how many trades are printed
 
 
 class Trade(NamedTuple):
-    """A contract that is bought (1) or sold (-1), and what that would change."""
+    """A contract that is bought (1) or sold (-1), and the change of the margin."""
 
     change: span.Amount
     contract: str
@@ -28,10 +28,10 @@ def contracts_of(params: str) -> List[str]:
 
 
 def best_trades(desk: span.Session, account: str, contracts: List[str]) -> List[Trade]:
-    """Every contract bought and sold once: the trades that free margin, the best first."""
+    """Evaluates buying and selling one of each contract. Returns the trades that free margin, the best first."""
     legs = [(contract, quantity) for contract in contracts for quantity in (1, -1)]
-    tried = desk.try_orders((account, {contract: quantity}) for contract, quantity in legs)
-    trades = [Trade(order.change, contract, quantity) for order, (contract, quantity) in zip(tried, legs)]
+    results = desk.try_orders((account, {contract: quantity}) for contract, quantity in legs)
+    trades = [Trade(order.change, contract, quantity) for order, (contract, quantity) in zip(results, legs)]
     return sorted((it for it in trades if it.change < 0), key=lambda it: it.change)
 
 

@@ -1,7 +1,7 @@
 # usage: span explain PARAMS POSITIONS | awk -F, -f figures.awk
 #
-# Recomputes the figures of every R and T line from the lines in front of it. Prints each line that has other figures, and how many have
-# the same. awk computes in floating point, with about 15 digits.
+# Recomputes the figures of each R and T line from the lines before it. Prints each line whose figures differ, and how many lines agree.
+# awk computes in floating point, with about 15 digits.
 
 function round_up(x) { x = sprintf("%.8f", x) + 0; return x > int(x) ? int(x) + 1 : x }
 

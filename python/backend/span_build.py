@@ -1,6 +1,6 @@
-"""The build backend of the package, with the standard library alone: the hooks of PEP 517 and PEP 660 that make a wheel and an sdist.
+"""The build backend of the package: the hooks of PEP 517 and PEP 660 that make a wheel and an sdist. It needs only the standard library.
 
-The same files give the same bytes each time: names are sorted, a wheel is not compressed, and every file has the time of
+The same files always give the same bytes: names are sorted, a wheel is not compressed, and every file has the time of
 SOURCE_DATE_EPOCH, or by default one fixed time.
 """
 import base64
@@ -17,7 +17,7 @@ from typing import Dict, List, Optional, Tuple
 
 ROOT = Path(__file__).resolve().parent.parent
 PACKAGE = ROOT / "src" / "span_margin"
-EARLIEST = 315532800  # 1980-01-01: a zip archive has no earlier time
+EARLIEST = 315532800  # 1980-01-01, the earliest time in a zip archive
 TAG = "py3-none-any"
 Settings = Optional[Dict[str, object]]
 
@@ -34,7 +34,7 @@ def project() -> Dict[str, str]:
 
 
 def stem() -> str:
-    """The name and the version, as files are called."""
+    """The name and the version, as they begin the names of the files."""
     fields = project()
     return f"{fields['name'].replace('-', '_')}-{fields['version']}"
 
@@ -61,7 +61,7 @@ def moment() -> int:
 
 
 def modules() -> List[Path]:
-    """The files of the package, by name."""
+    """The files of the package, sorted by name."""
     return sorted(it for it in PACKAGE.iterdir() if it.suffix == ".py" or it.name == "py.typed")
 
 

@@ -68,7 +68,7 @@ class Command(Case):
             with self.subTest(line):
                 status, out, err = command("json", given=b"T,A,D1,1\n" + line + b"\n")
                 self.assertEqual((status, out), (2, ""))
-                self.assertRegex(err, r"\Apython -m span_margin: line 2 is not one of .*\n\Z")
+                self.assertRegex(err, r"\Apython -m span_margin: line 2 is not a line of .*\n\Z")
 
     def test_cut_off(self) -> None:
         for format_ in ("table", "json", "csv"):

@@ -490,7 +490,7 @@ class Written(Case):
     def test_what_is_no_file(self) -> None:
         os.mkfifo(self.path)
         for place in self.path, self.room:
-            with self.assertRaisesRegex(ValueError, "is no file"):
+            with self.assertRaisesRegex(ValueError, "is not a file"):
                 of_desk(desk()).write(place)
         self.assertEqual(self.names(), ["params.csv"])
         with self.assertRaises(FileNotFoundError):

@@ -11,9 +11,9 @@ from span_margin._amounts import Amount, ExactAmount
 from span_margin._errors import ProgramError
 from span_margin._lines import FORMS, Form, values_of
 
-REFUSED, NO_FILE = 2, 6  # exit statuses, those of span
+REFUSED, NO_FILE = 2, 6  # exit statuses, the same as in span
 COMMAND = "python -m span_margin"
-ABOUT = f"""Reads lines that span prints: of a statement, an explanation, or orders that were tried.
+ABOUT = f"""Converts lines that span prints: statements, explanations and evaluated orders.
 
     span margin PARAMS POSITIONS | {COMMAND} table --major 2
     span explain PARAMS POSITIONS | {COMMAND} csv --only HELD
@@ -23,7 +23,7 @@ STATUSES = """formats:
   json    an object for each line; numbers with fractions are strings
   csv     one table with a header; a row has only the columns of its kind of line
 
-exit status: 0 success, 2 wrong arguments or a line that is not one of span's, 6 standard input or output failed
+exit status: 0 success, 2 usage error or a line that span does not print, 6 standard input or output failed
 """
 
 
@@ -58,15 +58,15 @@ def read() -> bytes:
 
 
 def rows_of(data: bytes, major: Optional[int], only: Sequence[str]) -> Iterator[Row]:
-    """The rows of the lines, or of those with a word of `only`. Ends the command at the first line that is not one of span's."""
+    """The rows of the lines, or of the lines whose word is in `only`. Ends the command at the first line that span does not print."""
     *lines, rest = data.decode("utf-8", "replace").split("\n")
     if rest:
-        end(REFUSED, "the last line has no end: the input was cut off")
+        end(REFUSED, "the last line does not end with a line feed: the input was cut off")
     for number, line in enumerate(lines, 1):
         try:
             form, values = values_of(line)
         except ProgramError:
-            end(REFUSED, f"line {number} is not one of a statement, an explanation or orders: {ascii(line)[:100]}")
+            end(REFUSED, f"line {number} is not a line of a statement, an explanation or orders: {ascii(line)[:100]}")
         word = line.partition(",")[0]
         if not only or word in only:
             yield Row(word, form, [shown(value, major) for value in values])
@@ -131,8 +131,10 @@ def write(text: str) -> None:
 def main() -> None:
     parser = argparse.ArgumentParser(COMMAND, description=ABOUT, epilog=STATUSES, formatter_class=argparse.RawDescriptionHelpFormatter)
     parser.add_argument("format", choices=list(WRITERS))
-    parser.add_argument("--major", type=int, choices=range(10), metavar="DIGITS", help="print amounts in major units; 2 if 100 cents are a dollar")
-    parser.add_argument("--only", action="append", default=[], choices=list(FORMS), metavar="WORD", help="take lines of this word, such as R")
+    major_help = "print amounts in major units, with this many decimals: 2 if 100 cents are a dollar"
+    parser.add_argument("--major", type=int, choices=range(10), metavar="DIGITS", help=major_help)
+    only_help = "print only lines of this word, such as R; may be repeated"
+    parser.add_argument("--only", action="append", default=[], choices=list(FORMS), metavar="WORD", help=only_help)
     chosen = parser.parse_args()
     write(WRITERS[chosen.format](rows_of(read(), chosen.major, chosen.only)))
 

@@ -1,4 +1,4 @@
-"""The calls that run the program once: its commands, with files by path or by content, and its answers as objects."""
+"""The calls that run the program once. Files are given by path or by content, and results are objects."""
 from typing import List, Optional
 
 from span_margin import _program, _results
@@ -13,8 +13,8 @@ FAULTY = (3, 4)  # the statuses with which `span faults` prints faults
 def margin(params: Source, positions: Source, *, workers: int = 1) -> Statement:
     """The margins of all accounts of a position file, by `span margin`.
 
-    Each file is its path, its content as bytes, or its rows: tuples, dicts with the columns account, contract and quantity, or a data
-    frame with these. `workers` is a number of threads, 1 to 16, which changes no result.
+    A file is given as its path, as its content in bytes, or as its rows: tuples, dicts with the columns account, contract and quantity,
+    or a data frame with these columns. `workers` is the number of threads, 1 to 16. It does not change the result.
 
     Raises ParametersError, PositionsError, FileError, OutOfMemoryError or UsageError.
     """
@@ -26,7 +26,7 @@ def margin(params: Source, positions: Source, *, workers: int = 1) -> Statement:
 def explain(params: Source, positions: Source, *, account: Optional[str] = None) -> Explanation:
     """The reasons for the margins of all accounts, or of one account, by `span explain`.
 
-    Raises what `margin` raises. If the position file lacks the account, that is a PositionsError with the code E1.
+    Raises what `margin` raises, and PositionsError with the code E1 if the position file does not have the account.
     """
     options = [] if account is None else [f"--account={account}"]
     with Inputs() as inputs:
@@ -37,8 +37,8 @@ def explain(params: Source, positions: Source, *, account: Optional[str] = None)
 def whatif(params: Source, positions: Source, orders: Source, *, workers: int = 1) -> TriedOrders:
     """What each order would do to the margin of its account, by `span whatif`.
 
-    Rows of orders have the columns order, account, contract and quantity. All rows with one name of an order are one order. One fault
-    rejects all orders: that is a PositionsError with `file` "orders". Raises what `margin` raises.
+    Rows of orders have the columns order, account, contract and quantity. All rows with the same name in order are one order. If one row
+    has a fault, all orders are rejected with a PositionsError whose `file` is "orders". Otherwise raises what `margin` raises.
     """
     with Inputs() as inputs:
         files = [_params(inputs, params), _positions(inputs, positions), inputs.file(orders, ORDER, "orders.csv")]
@@ -46,9 +46,9 @@ def whatif(params: Source, positions: Source, orders: Source, *, workers: int = 
 
 
 def roll(params: Source, next_params: Source, positions: Source, *, workers: int = 1) -> Roll:
-    """The margins of all accounts under a parameter set and under the next, by `span roll`.
+    """The margins of all accounts under a parameter set and under the next one, by `span roll`.
 
-    Raises what `margin` raises. If the next set is at fault, `file` of the error is "next parameters" or "next positions".
+    Raises what `margin` raises. If the fault is in the next set, `file` of the error is "next parameters" or "next positions".
     """
     with Inputs() as inputs:
         files = [_params(inputs, params), inputs.file(next_params, PARAMETER, "next.csv"), _positions(inputs, positions)]
@@ -62,7 +62,7 @@ def check(params: Source) -> SetCounts:
 
 
 def faults(params: Source, positions: Optional[Source] = None) -> Faults:
-    """All faults of a parameter file, or of a parameter file and a position file, by `span faults`. None if both are accepted.
+    """All faults of a parameter file, or of a parameter file and a position file, by `span faults`. Empty if the files are accepted.
 
     Raises FileError if a file cannot be read, and OutOfMemoryError.
     """
@@ -85,7 +85,7 @@ def _positions(inputs: Inputs, source: Source) -> str:
 
 
 def _answer(*words: str) -> List[str]:
-    """The lines that a command prints. Raises its error if it ends with another status than 0."""
+    """The lines that a command prints. Raises an error if its status is not 0."""
     done = _program.run(*words)
     if done.status:
         raise error_of_status(done.status, done.stderr)

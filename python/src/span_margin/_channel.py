@@ -8,12 +8,12 @@ from typing import BinaryIO, Iterator, List, NamedTuple, Optional, Sequence, cas
 from span_margin._errors import SessionEnded, error_of_status
 from span_margin._program import not_run, text_of
 
-CHUNK = 1 << 18  # bytes that are read at once, at most
-PATIENCE = 10  # seconds that a process has to end after the end of its input
+CHUNK = 1 << 18  # at most so many bytes are read at once
+PATIENCE = 10  # how many seconds a process has to end after the end of its input
 
 
 class Answer(NamedTuple):
-    """The lines of an answer, the id of the parameter set in use, and if the request was rejected what the session said of it."""
+    """The lines of an answer, the id of the parameter set in use, and the reason if the request was rejected."""
 
     lines: List[str]
     set: str
@@ -46,14 +46,14 @@ class Channel:
         return self._set
 
     def opening(self) -> Answer:
-        """The answer to the opening, number 0. Raises the error of a process that opened no session."""
+        """The answer to the opening, which has number 0. Raises the error of the process if it could not open the session."""
         try:
             return self.answer()
         except SessionEnded as ended:
             raise error_of_status(ended.status or 0, ended.line) from None
 
     def send(self, requests: Sequence[str]) -> None:
-        """Sends requests, each a line without its end. Several go out in a thread of their own, so that answers can be read meanwhile."""
+        """Sends requests, which are lines without their ends. Several requests are sent by another thread, while answers are read."""
         if self._ended:
             raise SessionEnded(*self._ended.args)
         self._settle()
@@ -83,7 +83,7 @@ class Channel:
             self._errors.close()
 
     def _settle(self) -> None:
-        """Takes the answers to requests whose caller was interrupted."""
+        """Reads the answers to requests whose caller was interrupted."""
         while self._answered < self._sent:
             self.answer()
         if self._writer:
@@ -91,7 +91,7 @@ class Channel:
             self._writer = None
 
     def _checked(self, lines: List[str], last: str) -> Answer:
-        """An answer whose last line has the next number."""
+        """Returns an answer, after checking that its last line has the next number."""
         self._answered += 1
         refused = None
         if last != f"done,{self._answered}":
@@ -103,7 +103,7 @@ class Channel:
         return Answer(lines, self._set, refused)
 
     def _write(self, data: bytes) -> None:
-        """Writes bytes. If the process has ended, whoever reads finds it out."""
+        """Writes bytes. If the process has ended, reading from it reports that."""
         left = memoryview(data)
         try:
             while left:
@@ -129,7 +129,7 @@ class Channel:
         return self._ended
 
     def _stop(self) -> None:
-        """Closes both pipes and waits for the end of the process, which is killed if it does not come."""
+        """Closes both pipes and waits for the process to end. Kills it if it does not end in time."""
         self._stdout.close()
         writes = self._writer is not None and self._writer.is_alive()
         if not writes:
@@ -140,6 +140,6 @@ class Channel:
             self._process.kill()
             self._process.wait()
         if self._writer and writes:
-            # (closed only now, so that the thread writes into no other file with the same number; the end of the process ends it)
+            # Closed only now, so that the thread, which ends with the process, cannot write into another file with this number.
             self._writer.join()
             self._stdin.close()

@@ -11,16 +11,16 @@ from typing import Callable, Dict, List, Mapping, NamedTuple, Optional, Tuple, U
 
 Round = Union[int, Mapping[str, int], None]
 
-# No float has as many digits, so quantize is exact but for the rounding that was asked for.
+# No float has so many digits, so quantize is exact except for the rounding that was asked for.
 _ROUNDING = Context(prec=1000, rounding=ROUND_HALF_EVEN)
 _PLAIN = re.compile(r"(-?)([0-9]+)(?:\.([0-9]+))?")
 
 
 class Form(NamedTuple):
-    """What the text of a field has to be: its form, and of a number its range."""
+    """What the text of a field has to be: its form, and its range if it is a number."""
 
     pattern: re.Pattern[str]
-    in_range: Optional[Callable[[str], bool]] = None  # None: the field is no number
+    in_range: Optional[Callable[[str], bool]] = None  # None: the field is not a number
     is_amount: bool = False
 
     def has(self, code: str, text: str) -> bool:
@@ -90,7 +90,7 @@ class Table(NamedTuple):
 
 
 def leg_columns(first: str, leg: int) -> Tuple[str, str, str]:
-    """The columns of a leg, of which the first is its tier or its commodity."""
+    """The columns of a leg. The first one has its tier or its commodity."""
     return f"{first}{leg}", f"side{leg}", f"ratio{leg}"
 
 
@@ -131,7 +131,7 @@ def tables_of(version: int) -> Dict[str, Table]:
 class Reading:
     """How the values of a call are read.
 
-    round  the decimals that a float is rounded to, in all columns or by column; a float of another column is an error
+    round  to how many decimals floats are rounded, in all columns or by column; a float in another column is an error
     major  if amounts are in major units, the number of digits that the minor unit has; 0 if they are in minor units, as in the file
     """
 
@@ -140,10 +140,10 @@ class Reading:
 
     def __post_init__(self) -> None:
         if self.major < 0:
-            raise ValueError(f"major is {self.major}, and 0 is the least")
+            raise ValueError(f"major is {self.major}, and must not be negative")
 
     def text_of(self, value: object, column: str, form: Form) -> str:
-        """The text of a field. Raises TypeError for a value that no field can have, and for a float that is not to be rounded."""
+        """The text of a field. Raises TypeError for a value that no field can have, and for a float that `round` does not cover."""
         if _is_empty(value):
             return ""
         if isinstance(value, float):
@@ -166,7 +166,7 @@ class Reading:
 
 
 def _is_empty(value: object) -> bool:
-    """Whether a value says that a field is empty, as a data frame has it for what is missing."""
+    """Whether a value means that a field is empty: None, or what a data frame has for a missing value."""
     if isinstance(value, Decimal):
         return value.is_nan()
     if isinstance(value, float):
@@ -183,7 +183,7 @@ def _rounded(value: float, digits: int) -> str:
 
 
 def _in_minor_units(text: str, digits: int) -> str:
-    """The whole number of minor units of an amount in major units. A text that is no such amount stays, and is no whole number either."""
+    """The whole number of minor units of an amount in major units. Another text is returned as it is, and the program rejects it."""
     found = _PLAIN.fullmatch(text)
     if not digits or not found:
         return text

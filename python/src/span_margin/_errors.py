@@ -1,4 +1,4 @@
-"""Errors: a fault line of the program, taken apart, as an exception."""
+"""Errors: a fault line of the program and its parts, as an exception."""
 import os
 import re
 import signal
@@ -15,7 +15,7 @@ LONGEST_FILE = 67108864  # bytes of a file that the program reads
 
 
 class SpanError(Exception):
-    """What the program rejected, or why it could not be asked.
+    """What the program rejected, or why it could not be run.
 
     line      what the program printed, without the line end
     status    its exit status; None if a session rejected one request and goes on
@@ -50,7 +50,7 @@ class SpanError(Exception):
 
 
 class UsageError(SpanError):
-    """Status 2: an argument is not one of the program's, such as a number of workers over 16 or an account that is no name."""
+    """Status 2: the program does not accept an argument, such as a number of workers over 16 or an account that is not a name."""
 
 
 class ParametersError(SpanError):
@@ -62,7 +62,7 @@ class PositionsError(SpanError):
 
 
 class OutOfMemoryError(SpanError):
-    """Status 5: the system gave the program no more memory."""
+    """Status 5: the program ran out of memory."""
 
 
 class FileError(SpanError):
@@ -82,7 +82,7 @@ class FileError(SpanError):
 
 
 class RollError(SpanError):
-    """Status 7: not to be expected; the files are not at fault."""
+    """Status 7: an internal error of a roll, which is not expected. The files are not at fault."""
 
 
 class RequestError(SpanError):
@@ -108,7 +108,7 @@ class RequestError(SpanError):
 
 
 class SessionEnded(SpanError):
-    """The session has ended, or was closed: then `status` is None. `line` has what it printed on standard error, if anything."""
+    """The session has ended, or was closed; then `status` is None. `line` is what it printed on standard error, which may be nothing."""
 
     def __str__(self) -> str:
         if self.status is None:
@@ -117,7 +117,7 @@ class SessionEnded(SpanError):
 
 
 class ProgramError(SpanError):
-    """There is no program, it has another version, a signal ended it, or it printed what this package cannot read."""
+    """There is no program, it has another version, a signal ended it, or this package cannot read what it printed."""
 
 
 _OF_STATUS: Dict[int, Type[SpanError]] = {
@@ -163,7 +163,7 @@ def why_not_readable(name: str) -> Optional[str]:
 
 
 def error_of_status(status: int, line: str) -> SpanError:
-    """The error of a run that ended with this status, not 0, and printed this on standard error."""
+    """The error of a run that ended with this status, which is not 0, and printed this line on standard error."""
     return _OF_STATUS.get(status, ProgramError)(line or f"span ended {how(status)}", status)
 
 
@@ -174,7 +174,7 @@ def error_of_request(what: str, request: str) -> SpanError:
 
 
 def how(status: int) -> str:
-    """How a process ended: a status below 0 is that of a signal."""
+    """How a process ended. A negative status means that a signal ended it."""
     if status >= 0:
         return f"with status {status}"
     try:

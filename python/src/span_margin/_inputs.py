@@ -9,7 +9,7 @@ from typing import Any, Iterable, Iterator, List, Mapping, Optional, Sequence, S
 from span_margin._errors import FileError
 
 Row = Union[Sequence[object], Mapping[str, object]]
-# What a call takes in place of a file: its path; its content; its rows, as tuples, dicts or a data frame.
+# What calls accept as a file: its path, its content, or its rows as tuples, dicts or a data frame.
 Source = Union[str, "os.PathLike[str]", bytes, bytearray, memoryview, SupportsBytes, Iterable[Row]]
 
 POSITION = ("account", "contract", "quantity")
@@ -45,7 +45,7 @@ class Inputs:
         return os.path.join(self._directory.name, f"{self._count}-{name}")
 
     def file(self, source: Source, columns: Sequence[str], name: str) -> str:
-        """The path of a file with this source. `name` is what a file in the private directory is called."""
+        """The path of a file with this source. If it is in the private directory, `name` is the end of its name."""
         if isinstance(source, (str, os.PathLike)):
             path = os.fspath(source)
             return path if _can_be_named(path) else self.copy(path, name)
@@ -66,7 +66,7 @@ class Inputs:
 
 
 def _can_be_named(path: str) -> bool:
-    """Whether the program can open the path: it takes paths in UTF-8, and does not have the descriptors of this process."""
+    """Whether the program can open the path. It accepts only paths in UTF-8, and does not have the file descriptors of this process."""
     try:
         path.encode()
     except UnicodeEncodeError:
@@ -84,9 +84,9 @@ def _read(path: str) -> bytes:
 
 
 def csv_of(rows: Any, columns: Sequence[str]) -> bytes:
-    """Rows as a CSV file. Nothing is checked but that there are the columns: the program judges what is in them."""
+    """Rows as a CSV file. Only the columns are checked here. The program checks their content."""
     text = io.StringIO(newline="")
-    # (with both in the line end, a field that has one of them is quoted in every version of Python)
+    # With both characters in the line end, every version of Python quotes a field that contains one of them.
     writer = csv.writer(text, lineterminator="\r\n")
     for row in _fields(rows, columns):
         writer.writerow(row or ("",))
@@ -94,7 +94,7 @@ def csv_of(rows: Any, columns: Sequence[str]) -> bytes:
 
 
 def _fields(rows: Any, columns: Sequence[str]) -> Iterator[Sequence[object]]:
-    """The fields of each row. Rows may be sequences, dicts with the columns, or a data frame with them."""
+    """The fields of each row. Rows are sequences, dicts with these columns, or a data frame with these columns."""
     if hasattr(rows, "columns"):
         _need(columns, rows.columns)
         yield from zip(*(rows[column] for column in columns))
@@ -104,7 +104,7 @@ def _fields(rows: Any, columns: Sequence[str]) -> Iterator[Sequence[object]]:
             _need(columns, row)
             yield [row[column] for column in columns]
         elif isinstance(row, (str, bytes)):
-            raise TypeError(f"a row is a sequence of fields or a dict, and not {row!r}")
+            raise TypeError(f"a row is a sequence of fields or a dict, not {row!r}")
         else:
             yield list(row)
 

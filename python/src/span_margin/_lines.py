@@ -1,7 +1,7 @@
 """The lines that the program prints, as frozen dataclasses with a field for each field of the line.
 
 Amounts are in minor units of the currency of the parameter set, quantities in contracts, deltas and spreads in deltas. Months are six
-digits, yyyymm. Every line of a statement, explanation or order has the id of the parameter set that it was computed under: `set`.
+digits, yyyymm. In every line of a statement, explanation or order, `set` is the id of the parameter set under which it was computed.
 """
 from dataclasses import dataclass, fields
 from decimal import Decimal
@@ -14,7 +14,7 @@ Whole = TypeVar("Whole", bound="Line")
 
 @dataclass(frozen=True)
 class Line:
-    """One line, or what belongs to one."""
+    """A line, or an object made of lines."""
 
     def to_dict(self) -> Dict[str, Any]:
         """The fields by their names. Objects in fields are dicts too, and tuples lists."""
@@ -37,7 +37,7 @@ class CommodityMargin(Line):
     intracommodity_charge, delivery_charge    charges for calendar spreads, and for months near delivery
     credit                                    the intercommodity credit, which is subtracted
     minimum                                   the short option minimum
-    requirement                               what the account has to bring for this commodity
+    requirement                               what the account must post for this commodity
     """
 
     account: str
@@ -58,8 +58,8 @@ class AccountTotal(Line):
 
     total    the sum of the requirements
     value    the option value, negative if short options are worth more
-    due      total less value, and not below 0
-    excess   value less total, and not below 0
+    due      total minus value, but at least 0
+    excess   value minus total, but at least 0
     """
 
     account: str
@@ -86,7 +86,7 @@ class Held(Line):
 
 @dataclass(frozen=True)
 class Sums(Line):
-    """A SUMS line: the losses in scenarios 1 to 16, gains negative."""
+    """A SUMS line: the losses in scenarios 1 to 16. Gains are negative."""
 
     account: str
     set: str
@@ -96,7 +96,8 @@ class Sums(Line):
 
 @dataclass(frozen=True)
 class Scan(Line):
-    """A SCAN line. `paired_scenario` has the other volatility; `price_risk` is what the credit is a part of."""
+    """A SCAN line. `paired_scenario` has the same price move and the other volatility; scenarios 15 and 16 are each their own pair. The
+    credit is a part of `price_risk`."""
 
     account: str
     set: str
@@ -109,7 +110,7 @@ class Scan(Line):
 
 @dataclass(frozen=True)
 class Month(Line):
-    """A MONTH line: the delta of a month, and what calendar spreads left of it."""
+    """A MONTH line: the delta of a month, and the part of it that no calendar spread used."""
 
     account: str
     set: str
@@ -135,7 +136,7 @@ class Intra(Line):
 
 @dataclass(frozen=True)
 class Spot(Line):
-    """A SPOT line: deltas near delivery that spreads used, and that they left, with the rate of each."""
+    """A SPOT line: the deltas near delivery that spreads used and that they left, with their rates."""
 
     account: str
     set: str
@@ -150,7 +151,7 @@ class Spot(Line):
 
 @dataclass(frozen=True)
 class Inter(Line):
-    """An INTER line: spreads with other commodities. `basis_points` is the credit rate, 10000 for all of the price risk."""
+    """An INTER line: spreads with other commodities. `basis_points` is the credit rate; 10000 is all of the price risk."""
 
     account: str
     set: str
@@ -176,7 +177,7 @@ class Credit(Line):
 
 @dataclass(frozen=True)
 class Short(Line):
-    """A SHORT line: short calls and puts in contracts, how they are counted (SUM or MAX), and the minimum rate of one."""
+    """A SHORT line: short calls and puts in contracts, how they are counted (SUM or MAX), and the minimum for one contract."""
 
     account: str
     set: str
@@ -189,7 +190,7 @@ class Short(Line):
 
 @dataclass(frozen=True)
 class Change(Line):
-    """A CHANGE line: the requirement of a commodity before and after an order. `change` is after less before."""
+    """A CHANGE line: the requirement of a commodity before and after an order. `change` is after minus before."""
 
     order: str
     account: str
@@ -202,7 +203,7 @@ class Change(Line):
 
 @dataclass(frozen=True)
 class OrderTotal(Line):
-    """An ORDER line: the total of the account before and after an order, and under a set of version 2 also what is due."""
+    """An ORDER line: the total of the account before and after an order, and the amount due under a set of version 2."""
 
     order: str
     account: str
@@ -217,7 +218,7 @@ class OrderTotal(Line):
 
 @dataclass(frozen=True)
 class Position(Line):
-    """A position record: the net quantity of an account in a contract, short negative."""
+    """A position record: the net quantity of an account in a contract, negative if it is short."""
 
     account: str
     contract: str
@@ -267,8 +268,8 @@ _CONVERTERS: Dict[Any, Callable[[str], Any]] = {
 
 
 class Form(NamedTuple):
-    """How the lines of one word become objects: the names of the fields, the converters of those that are no text, by their index,
-    and how many fields a line has at least."""
+    """How the lines of one word become objects: the names of the fields, the converters of the fields that are not text (by their
+    index), and the least number of fields."""
 
     make: Type[Line]
     columns: Tuple[str, ...]
@@ -277,7 +278,7 @@ class Form(NamedTuple):
 
 
 def columns_of(make: Type[Line]) -> Tuple[str, ...]:
-    """The names of the cells of a line, if each has a column of its own."""
+    """The columns of a table of such lines. Each sum of a SUMS line has its own column."""
     names = tuple(field.name for field in fields(make))
     return (*names[:-1], *(f"sum_{number}" for number in range(1, 17))) if make is Sums else names
 
@@ -316,7 +317,7 @@ FORMS: Dict[str, Form] = {
 
 
 def values_of(line: str) -> Tuple[Form, List[Any]]:
-    """The form of a line and the values of its fields behind the word. Raises ProgramError if it is no line of the program."""
+    """The form of a line, and the values of its fields after the word. Raises ProgramError if the program prints no such line."""
     word, *values = line.split(",")
     form, count = FORMS.get(word), len(values)
     if form is None or not form.least <= count <= len(form.columns):
@@ -331,11 +332,11 @@ def values_of(line: str) -> Tuple[Form, List[Any]]:
 
 
 def _unknown(line: str) -> ProgramError:
-    return ProgramError(f"this is no line of span that the package knows: {line}")
+    return ProgramError(f"this package does not know this line of span: {line}")
 
 
 def object_of(line: str) -> Line:
-    """The object of one line. Raises ProgramError if it is no line of the program."""
+    """The object of one line. Raises ProgramError if the program prints no such line."""
     form, values = values_of(line)
     if form.make is Sums:
         return Sums(values[0], values[1], values[2], tuple(values[3:]))
@@ -348,7 +349,7 @@ def whole_of(make: Type[Whole], line: str, **parts: Any) -> Whole:
 
 
 def _made(make: Type[Whole], form: Form, values: List[Any], parts: Dict[str, Any]) -> Whole:
-    """An object without `__init__`, which sets each field of a frozen class by a call. Fields that the line lacks have their defaults."""
+    """Makes an object without `__init__`, which is slow for frozen classes. Fields that the line lacks have their defaults."""
     made = object.__new__(make)
     made.__dict__.update(zip(form.columns, values), **parts)
     return made
@@ -361,8 +362,8 @@ def position_of(line: str) -> Position:
 
 
 def fault_of(line: str) -> Fault:
-    """The fault of a fault line. Raises ProgramError if it is none."""
+    """The fault of a fault line. Raises ProgramError for another line."""
     found = match_fault(line)
     if not found or not found["record"]:
-        raise ProgramError(f"this is no fault line that the package knows: {line}")
+        raise ProgramError(f"this package does not know this fault line: {line}")
     return Fault(line, found["file"], found["code"], found["name"], int(found["record"]), found["account"])

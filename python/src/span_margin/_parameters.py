@@ -1,4 +1,4 @@
-"""Parameter sets made of the rows of tables: the file that the program reads, and its faults by the row that each comes from."""
+"""Parameter sets made of the rows of tables: the file that the program reads, and the row from which each fault of it comes."""
 import os
 import secrets
 from collections import abc
@@ -24,7 +24,7 @@ _OF_RULE = {
 
 
 class DataFrame(Protocol):
-    """A data frame as pandas has it."""
+    """A data frame, such as a pandas.DataFrame."""
 
     def to_dict(self, orient: Any) -> Any:
         """With "records": a list of a dict for each row."""
@@ -35,15 +35,15 @@ Rows = Union[Iterable[Union[Mapping[str, object], Sequence[object]]], DataFrame]
 
 @dataclass(frozen=True)
 class RowFault:
-    """One fault of a parameter set, by the row that it comes from.
+    """One fault of a parameter set, with the row that it comes from.
 
-    table   the table: commodities, contracts, arrays, tiers, intra_spreads, spot_months, inter_spreads; set for what made the set
-    source  what the call that added the row named as its source, by default the table
-    row     the number of the row, from 1, among those that the call added
+    table   the table: commodities, contracts, arrays, tiers, intra_spreads, spot_months, inter_spreads; set for the set itself
+    source  the source that the call that added the row named, by default the table
+    row     the number of the row, from 1, among the rows that the call added
     code    the code, such as P6; empty for NoArray, NoContract and SecondArray, which are found before there is a file
     name    its name, such as BadNumber
     field   the column; None if the fault is about more than one
-    value   what the row has in that column
+    value   the value of the row in that column
     """
 
     table: str
@@ -61,7 +61,8 @@ class RowFault:
 
 
 class ParameterSetError(ParametersError):
-    """A parameter set has faults. `faults` has each one by its row, and the text a line for each. `line` is that of `span faults`."""
+    """A parameter set has faults. `faults` lists them with their rows, the text has a line for each, and `line` is the first line of
+    `span faults`."""
 
     def __init__(self, faults: Sequence[RowFault], line: str = "") -> None:
         super().__init__(line, 3)
@@ -84,7 +85,7 @@ class _Place(NamedTuple):
 
 
 class _Cell(NamedTuple):
-    """A field of a record: its text in the file, and what the row has for it."""
+    """A field of a record: its text in the file, and the value in the row."""
 
     text: str
     value: object
@@ -109,23 +110,23 @@ class _Record(NamedTuple):
 
 
 class ParameterSet:
-    """A parameter set that is made of rows, as docs/USE.md shows. Calls such as `margin` take it in place of a parameter file.
+    """A parameter set that is made of rows, as docs/USE.md shows. Calls such as `margin` accept it as a parameter file.
 
     Each `add_` method takes rows in the order of the records: dicts by column, rows of `csv.DictReader` or `sqlite3`, sequences in the
-    order of the columns, or a data frame. A value is text, an int or a Decimal; it is written as it stands, and the program judges it. An
-    unknown or missing column is a ValueError, and a value of another type a TypeError; nothing of that call is added then. All methods
-    have these arguments:
+    order of the columns, or a data frame. A value is text, an int or a Decimal. It is written as it is, and the program checks it. An
+    unknown or missing column raises ValueError, and a value of another type TypeError; then the call adds nothing. All methods have these
+    arguments:
 
     source  what faults name as the source of these rows, such as the name of a file
-    round   floats are rounded half to even, from the text that repr gives, to so many decimals, in all columns or by column; without it
-            a float is a TypeError
-    major   if amounts are in major units, the number of digits that the minor unit has: 2 for dollars, of which the file has cents. By
-            default amounts are in minor units, as in the file
+    round   to how many decimals floats are rounded, in all columns or by column: half to even, from the text that repr gives. Without it
+            a float raises TypeError
+    major   the number of decimals of amounts in major units, such as 2 if the rows have dollars and the file needs cents. By default
+            amounts are in minor units, as in the file
     """
 
     def __init__(self, id: str, currency: str, *, version: int = 1) -> None:
         if version not in (1, 2):
-            raise ValueError(f"a set is of version 1 or 2, and not {version!r}")
+            raise ValueError(f"a set has version 1 or 2, not {version!r}")
         self._tables = tables_of(version)
         self._rows: Dict[str, List[_Record]] = {name: [] for name in self._tables}
         self._calls: Dict[str, int] = {name: 0 for name in self._tables}
@@ -139,12 +140,12 @@ class ParameterSet:
     def add_contracts(self, rows: Rows, *, source: Optional[str] = None, round: Round = None, major: int = 0) -> None:
         """Adds contracts: contract, commodity, type, month, delta, scale, v1 to v16, and under version 2 value.
 
-        With contract, commodity, type, month, scale alone, the others come from the row of `add_arrays` for the contract.
+        If rows have only contract, commodity, type, month and scale, the other columns come from the row of `add_arrays` for the contract.
         """
         self._add("contracts", rows, source, Reading(round, major))
 
     def add_arrays(self, rows: Rows, *, source: Optional[str] = None, round: Round = None, major: int = 0) -> None:
-        """Adds risk arrays of contracts that are added without: contract, delta, v1 to v16, and under version 2 value."""
+        """Adds risk arrays of contracts that are added without one: contract, delta, v1 to v16, and under version 2 value."""
         self._add("arrays", rows, source, Reading(round, major))
 
     def add_tiers(self, rows: Rows, *, source: Optional[str] = None, round: Round = None, major: int = 0) -> None:
@@ -170,7 +171,7 @@ class ParameterSet:
         self._add("inter_spreads", rows, source, Reading(round, major))
 
     def to_bytes(self) -> bytes:
-        """The parameter file, which the program has not judged. Raises ParameterSetError if a contract and its array miss each other."""
+        """The parameter file, which the program has not checked. Raises ParameterSetError if a contract has no array, or the reverse."""
         return _bytes_of(self._records())
 
     __bytes__ = to_bytes
@@ -180,9 +181,9 @@ class ParameterSet:
         self._checked()
 
     def write(self, path: Union[str, "os.PathLike[str]"]) -> None:
-        """Writes the parameter file if it has no fault, else raises ParameterSetError and leaves the file that is there.
+        """Writes the parameter file if it has no fault. Otherwise raises ParameterSetError, and leaves an old file as it is.
 
-        The file gets its name when it is written as a whole.
+        The file gets its name only when it is complete.
         """
         _replace(path, self._checked())
 
@@ -197,7 +198,7 @@ class ParameterSet:
         self._calls[table] = call
 
     def _records(self) -> List[Tuple[Table, _Record]]:
-        """The records of the file, in its order."""
+        """The records of the file, in their order."""
         records = [(SET, self._set)]
         for name, table in self._tables.items():
             rows = self._with_arrays() if name == "contracts" else [] if name == "arrays" else self._rows[name]
@@ -245,7 +246,7 @@ class ParameterSet:
 
 
 def _record(place: _Place, row: object, table: Table, reading: Reading) -> _Record:
-    """The record of a row. Raises ValueError or TypeError, with the place in its text, for other columns and for values of no use."""
+    """The record of a row. Raises ValueError for wrong columns, and TypeError for an unusable row or value. The text names the row."""
     try:
         values = _values(row, table)
     except (TypeError, ValueError) as error:
@@ -260,7 +261,7 @@ def _record(place: _Place, row: object, table: Table, reading: Reading) -> _Reco
 
 
 def _at(where: str, error: Exception) -> Exception:
-    """An error of a row, with the place in its text."""
+    """An error of a row. Its text names the row."""
     return (TypeError if isinstance(error, TypeError) else ValueError)(f"{where} {error}")
 
 
@@ -293,22 +294,22 @@ def _without_empty_legs(cells: Dict[str, _Cell]) -> Dict[str, _Cell]:
 def _bytes_of(records: Iterable[Tuple[Table, _Record]]) -> bytes:
     """The file of these records."""
     lines = (",".join([table.record, *(_quoted(it.text) for it in record.cells.values())]) for table, record in records)
-    # (what UTF-8 has no bytes for is in no name and no number, nor is the backslash that takes its place)
+    # What cannot be encoded becomes a backslash escape. The program rejects it, since no name and no number has a backslash.
     return "".join(f"{line}\n" for line in lines).encode("utf-8", "backslashreplace")
 
 
 def _quoted(text: str) -> str:
-    """A field as the file has it: in quotes if it would not be one field without."""
+    """A field as it is in the file: with quotes if it needs them."""
     if not any(character in text for character in ',"\r\n'):
         return text
     return '"' + text.replace('"', '""') + '"'
 
 
 def _replace(path: Union[str, "os.PathLike[str]"], content: bytes) -> None:
-    """Writes a file under another name in its directory, and then gives it its name."""
+    """Writes a file under another name in the same directory, and then renames it."""
     target = os.path.realpath(path)
     if os.path.exists(target) and not os.path.isfile(target):
-        raise ValueError(f"{os.fspath(path)} is there, and is no file")
+        raise ValueError(f"{os.fspath(path)} exists, and is not a file")
     draft = os.path.join(os.path.dirname(target), f".params-{secrets.token_hex(8)}")
     try:
         with open(draft, "xb") as file:
@@ -326,7 +327,7 @@ def _replace(path: Union[str, "os.PathLike[str]"], content: bytes) -> None:
 
 
 class _Known:
-    """The commodities and the tiers that there are, for rules about legs."""
+    """The commodities and the tiers of the set, for rules about legs."""
 
     def __init__(self, rows: Dict[str, List[_Record]]) -> None:
         self.commodities: Set[str] = {it.text("commodity") for it in rows["commodities"]}
@@ -346,7 +347,7 @@ def _column_of(code: str, table: Table, record: _Record, known: _Known) -> Optio
     if code in ("P5", "P6", "P7"):
         wrong = [column for column, cell in record.cells.items() if table.columns[column].has(code, cell.text)]
         if code == "P7" and "value" in record.cells:
-            wrong.append("value")  # of a future, which is in range and not 0
+            wrong.append("value")  # of a future: it must be 0, and has another value in the range
         return wrong[0] if wrong else None
     if code in ("C7", "C8") or code == "C2" and table.record == "INTER":
         return _column_of_leg(code, table, record, known)

@@ -8,9 +8,9 @@ from typing import Dict, List, NamedTuple, Sequence, Tuple
 
 from span_margin._errors import ProgramError
 
-MAJOR = 1  # the first number of the programs that this package knows
+MAJOR = 1  # the major version of the programs that this package knows
 SESSIONS = (1, 3)  # the first version with `span session`
-# Of a checkout: the program that `./dev prove` builds.
+# In a checkout, the program that `./dev prove` builds.
 _CHECKOUT = Path(__file__).resolve().parents[3] / "crates" / "span" / "out" / "span"
 _versions: Dict[Tuple[str, int, int], Tuple[int, int, int]] = {}
 
@@ -28,7 +28,7 @@ class Run(NamedTuple):
 
 
 def find() -> str:
-    """The path of the program: the one that the environment variable SPAN names, the one in PATH, or the one of the checkout.
+    """The path of the program: the one that the environment variable SPAN names, or the one in PATH, or the one in the checkout.
 
     Raises ProgramError if there is none.
     """
@@ -37,16 +37,16 @@ def find() -> str:
     if found:
         return os.path.abspath(found)
     if named:
-        raise ProgramError(f"SPAN in the environment is {named}, which is no program")
+        raise ProgramError(f"SPAN in the environment is {named}, which is not a program")
     if os.access(_CHECKOUT, os.X_OK):
         return str(_CHECKOUT)
     raise ProgramError("there is no program span: SPAN in the environment does not name it, and it is not in PATH")
 
 
 def version(program: str) -> Tuple[int, int, int]:
-    """The three numbers that `span --version` prints.
+    """The three numbers of the version that `span --version` prints.
 
-    Raises ProgramError if it prints another text, or a first number that this package does not know.
+    Raises ProgramError if it prints another text, or a major version that this package does not know.
     """
     try:
         about = os.stat(program)
@@ -62,7 +62,7 @@ def _read_version(program: str) -> Tuple[int, int, int]:
     said = _run([program, "--version"]).stdout
     found = re.match(r"span (\d+)\.(\d+)\.(\d+)\b", said)
     if not found:
-        raise ProgramError(f"{program} --version printed no version of span")
+        raise ProgramError(f"{program} --version did not print a version of span")
     numbers = (int(found[1]), int(found[2]), int(found[3]))
     if numbers[0] != MAJOR:
         raise ProgramError(f"{program} is version {found[0][5:]}, and this package is for version {MAJOR}")
@@ -70,17 +70,17 @@ def _read_version(program: str) -> Tuple[int, int, int]:
 
 
 def command(*words: str, least: Tuple[int, int] = (MAJOR, 0)) -> List[str]:
-    """A command line of the program with these words, whose version is at least `least`."""
+    """A command line of the program with these arguments. Raises ProgramError if its version is below `least`."""
     program = find()
     numbers = version(program)
     if numbers[:2] < least:
         have, want = ".".join(map(str, numbers)), ".".join(map(str, least))
-        raise ProgramError(f"{program} is version {have}, and this needs {want} or later")
+        raise ProgramError(f"{program} is version {have}, and this call needs {want} or later")
     return [program, *words]
 
 
 def run(*words: str) -> Run:
-    """Runs the program with these words to its end."""
+    """Runs the program with these arguments, and waits for its end."""
     return _run(command(*words))
 
 

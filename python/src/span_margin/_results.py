@@ -1,4 +1,4 @@
-"""What calls return: the lines of an answer, put together, in the order in which the program prints them."""
+"""What calls return: objects for the lines that the program prints, in their order."""
 import json
 from dataclasses import dataclass, field
 from functools import cached_property
@@ -37,7 +37,7 @@ Lines = Sequence[str]
 
 
 class Items(Generic[Item]):
-    """What has items. Iteration gives them in the order of the program."""
+    """A container of items. Iteration returns them in the order of the program."""
 
     @property
     def _items(self) -> Tuple[Item, ...]:
@@ -64,7 +64,7 @@ class Named(Items[Item]):
 
 
 class Table(Items[Item]):
-    """Items that are a table: as dicts, as JSON, and as a data frame of pandas."""
+    """Items that can be converted to dicts, to JSON, and to a pandas data frame."""
 
     _kinds: Mapping[str, Type[Line]]  # the lines that a data frame can have, the default first
 
@@ -72,7 +72,7 @@ class Table(Items[Item]):
         return len(self._items)
 
     def to_dicts(self) -> List[Dict[str, Any]]:
-        """A dict for each item, with what belongs to the item inside. Whole numbers are int, and numbers with fractions Decimal."""
+        """A dict for each item, with its parts as dicts inside. Whole numbers are int, and numbers with fractions Decimal."""
         return [item.to_dict() for item in self._items]
 
     def to_json(self) -> str:
@@ -80,13 +80,13 @@ class Table(Items[Item]):
         return json.dumps(self.to_dicts(), default=str)
 
     def to_pandas(self, of: Optional[str] = None) -> Any:
-        """A data frame with a row for each line of one kind; the page PYTHON.md lists the kinds. It needs pandas.
+        """A pandas data frame with a row for each line of one kind. The page PYTHON.md lists the kinds.
 
         Raises ValueError if there is no such kind, and ImportError if pandas is not installed.
         """
         kind = next(iter(self._kinds)) if of is None else of
         if kind not in self._kinds:
-            raise ValueError(f"there are no {kind}: the kinds are {', '.join(self._kinds)}")
+            raise ValueError(f"unknown kind {kind}; the kinds are {', '.join(self._kinds)}")
         pandas = import_module("pandas")
         columns = columns_of(self._kinds[kind])
         return pandas.DataFrame([cells_of(line, columns) for line in self._rows(kind)], columns=list(columns))
@@ -113,7 +113,7 @@ class AccountMargin(AccountTotal, Named[CommodityMargin]):
 
 @dataclass(frozen=True)
 class Statement(Table[AccountMargin], Named[AccountMargin]):
-    """The margins of accounts. `statement["RIVER-01"]` is one of them. `set` is the id of the parameter set; None if nothing names it."""
+    """The margins of accounts. `statement["RIVER-01"]` is one of them. `set` is the id of the parameter set, or None if it is unknown."""
 
     set: Optional[str]
     accounts: Tuple[AccountMargin, ...]
@@ -132,7 +132,7 @@ class Statement(Table[AccountMargin], Named[AccountMargin]):
 
 @dataclass(frozen=True)
 class Roll:
-    """The statements of the same positions under a parameter set and under the next."""
+    """The statements of the same positions under a parameter set and under the next one."""
 
     today: Statement
     next: Statement
@@ -145,7 +145,7 @@ def account_margin(lines: Lines) -> AccountMargin:
 
 
 def _by_account(lines: Lines) -> Iterator[List[str]]:
-    """The lines of each account: up to its T line."""
+    """The lines of each account, up to its T line."""
     found: List[str] = []
     for line in lines:
         found.append(line)
@@ -163,7 +163,7 @@ def statement(lines: Lines, set_id: Optional[str] = None) -> Statement:
 
 
 def roll(lines: Lines) -> Roll:
-    """Two statements of the same accounts: each has half of the accounts."""
+    """The two statements of a roll. The lines of each are one half of the lines."""
     accounts = tuple(account_margin(it) for it in _by_account(lines))
     half = len(accounts) // 2
     today, following = accounts[:half], accounts[half:]
@@ -194,7 +194,7 @@ class CommodityExplanation(Line):
 
 @dataclass(frozen=True)
 class AccountExplanation(AccountTotal, Named[CommodityExplanation]):
-    """The reasons for the margin of an account. `explanation["CL"]` has those in CL."""
+    """The reasons for the margin of an account. `explanation["CL"]` has the reasons in CL."""
 
     commodities: Tuple[CommodityExplanation, ...] = ()
     _key = "commodity"
@@ -212,7 +212,7 @@ class AccountExplanation(AccountTotal, Named[CommodityExplanation]):
 
 @dataclass(frozen=True)
 class Explanation(Table[AccountExplanation], Named[AccountExplanation]):
-    """The reasons for the margins of accounts. `explanation["RIVER-01"]` has those of one account."""
+    """The reasons for the margins of accounts. `explanation["RIVER-01"]` has the reasons of one account."""
 
     set: Optional[str]
     accounts: Tuple[AccountExplanation, ...]
@@ -294,14 +294,15 @@ def explanation(lines: Lines) -> Explanation:
 
 @dataclass(frozen=True)
 class TriedOrder(OrderTotal, Named[Change]):
-    """What an order would do to the margin of its account. `tried["CL"]` is the change in CL, and missing if there is none."""
+    """What an order would do to the margin of its account. `tried["CL"]` is the change in CL, and raises KeyError if
+    there is none."""
 
     _change_lines: Tuple[str, ...] = field(default=(), repr=False)
     _key = "commodity"
 
     @cached_property
     def changes(self) -> Tuple[Change, ...]:
-        """The commodities whose requirement changes. Most callers look at the total alone, so the lines become objects when asked for."""
+        """The commodities whose requirement changes. Most callers need only the total, so the lines become objects only here."""
         return tuple(cast(Change, object_of(line)) for line in self._change_lines)
 
     @property
@@ -330,12 +331,12 @@ class TriedOrders(Table[TriedOrder], Named[TriedOrder]):
 
 
 def tried_order(lines: Lines) -> TriedOrder:
-    """A tried order from its CHANGE lines and its ORDER line."""
+    """An evaluated order from its CHANGE lines and its ORDER line."""
     return whole_of(TriedOrder, lines[-1], _change_lines=tuple(lines[:-1]))
 
 
 def tried_orders(lines: Lines) -> TriedOrders:
-    """All tried orders from their lines."""
+    """All evaluated orders from their lines."""
     orders, begin = [], 0
     for at, line in enumerate(lines):
         if line.startswith("ORDER,"):
@@ -361,7 +362,7 @@ def account_total(lines: Lines) -> AccountTotal:
 
 @dataclass(frozen=True)
 class Faults(Table[Fault]):
-    """All faults of the files, in the order in which the program lists them. It is false if there is none."""
+    """All faults of the files, in the order of the program. It is false if there are none."""
 
     faults: Tuple[Fault, ...]
     _kinds = {"faults": Fault}

@@ -13,25 +13,25 @@ from span_margin._lines import AccountTotal, SetCounts
 from span_margin._results import AccountExplanation, AccountMargin, Positions, Statement, TriedOrder
 
 Legs = Mapping[str, int]
-# An order to try: its account, its legs, and a name if it has one.
+# An order to evaluate: its account, its legs, and a name if it has one.
 Try = Union[Tuple[str, Legs], Tuple[str, Legs, str]]
 
-NAME = "TRY"  # of an order without a name
+NAME = "TRY"  # the name of an order that has none
 LONGEST_REQUEST = 4096  # bytes of a request without its line end
 
 
 class Session:
-    """A parameter set and positions that are kept in memory, and questions about them, by `span session`.
+    """A parameter set and positions in the memory of a process `span session`, which answers requests about them.
 
-    Threads may share a session: it answers one call at a time. Fills and a new set change what later calls see, of all threads. The
-    state ends with the session, so keep `positions()` if it has to last. Close a session, or use it in a `with` statement.
+    Threads may share a session, which answers one call at a time. Fills and a new set affect later calls of all threads. The positions
+    are lost when the session ends, so save `positions()` if you need them. Close a session, or use it in a `with` statement.
 
-    Legs are a dict of contracts and quantities, bought positive and sold negative. A call that is rejected raises RequestError and
-    changes nothing. If the process ends, this and all later calls raise SessionEnded.
+    Legs are a dict from contracts to quantities, positive if bought and negative if sold. A call that is rejected raises RequestError
+    and changes nothing. If the process ends, this and all later calls raise SessionEnded.
     """
 
     def __init__(self, params: Source, positions: Source, *, workers: int = 1) -> None:
-        """Reads the two files, which are given as for `margin`. `workers` is the number of threads for the margins of all accounts.
+        """Reads the two files, which are given as in `margin`. `workers` is the number of threads that compute the margins of all accounts.
 
         Raises what `margin` raises, and ProgramError if the program is older than 1.3.
         """
@@ -69,20 +69,20 @@ class Session:
     def margin(self, account: str) -> AccountMargin: ...
 
     def margin(self, account: Optional[str] = None) -> Union[Statement, AccountMargin]:
-        """The margin of an account, or of all accounts if none is named. RequestError E1: there is no such account."""
+        """The margin of an account, or of all accounts if none is named. Raises RequestError E1 if there is no such account."""
         if account is None:
             answer = self._ask("MARGIN")
             return _results.statement(answer.lines, answer.set)
         return _results.account_margin(self._ask(_request("MARGIN", account)).lines)
 
     def explain(self, account: str) -> AccountExplanation:
-        """The reasons for the margin of an account. RequestError E1: there is no such account."""
+        """The reasons for the margin of an account. Raises RequestError E1 if there is no such account."""
         return _results.account_explanation(self._ask(_request("EXPLAIN", account)).lines)
 
     def try_order(self, account: str, legs: Legs, name: str = NAME) -> TriedOrder:
-        """What an order would do to the margin of its account; it changes nothing. All legs count together.
+        """What an order would do to the margin of its account. All legs count together. It changes nothing.
 
-        An account that has no positions yet may be tried too.
+        The account may be one that has no positions yet.
         """
         return _results.tried_order(self._ask(_try(account, legs, name)).lines)
 
@@ -93,10 +93,10 @@ class Session:
     def try_orders(self, orders: Iterable[Try], *, return_errors: Literal[True]) -> List[Union[TriedOrder, SpanError]]: ...
 
     def try_orders(self, orders: Iterable[Try], *, return_errors: bool = False) -> Sequence[Union[TriedOrder, SpanError]]:
-        """What each of many orders would do by itself, which is faster than one call for each. It changes nothing.
+        """What each of many orders would do by itself. This is faster than a call for each order. It changes nothing.
 
         An order is a tuple of its account and its legs, or of account, legs and name. The first order that is rejected raises its error
-        when all answers have come. With return_errors=True its error is in the list in the place of its result.
+        after all answers have been read. With return_errors=True, the list has the error instead of the result.
         """
         requests = [_try_or_error(*order) for order in orders]
         with self._lock:
@@ -109,7 +109,7 @@ class Session:
         return results
 
     def fill(self, account: str, legs: Legs) -> AccountTotal:
-        """Adds quantities to the net positions of an account, which is new if it is not there. Returns its total afterwards."""
+        """Adds quantities to the net positions of an account, which may be a new one. Returns its total afterwards."""
         return _results.account_total(self._ask(_request("FILL", account, *_pairs(legs))).lines)
 
     def use_set(self, params: Source) -> SetCounts:
@@ -119,7 +119,7 @@ class Session:
         """
         with Inputs() as inputs:
             path = inputs.file(params, PARAMETER, "params.csv")
-            # (a relative path of the caller, whose working directory need not be the one of the session)
+            # The working directory may have changed since the session was started.
             whole = path if os.path.isabs(path) else os.path.join(os.getcwd(), path)
             name = whole if _fits(whole) else inputs.copy(path, "params.csv")
             return _results.set_counts(self._ask(f"SET,{name}").lines)
@@ -140,7 +140,7 @@ class Session:
 
 
 def _request(word: str, *fields: str) -> str:
-    """A request of these fields. Raises RequestError if one has what would end it: the session would read another request."""
+    """A request with these fields. Raises RequestError if a field has a comma or a line end, which would make it another request."""
     line = ",".join((word, *fields))
     if line.count(",") != len(fields) or "\n" in line or "\r" in line:
         field = next(number for number, text in enumerate(fields, 2) if set(text) & set(",\r\n"))
@@ -171,5 +171,5 @@ def _tried(request: str, answer: Answer) -> Union[TriedOrder, SpanError]:
 
 
 def _fits(path: str) -> bool:
-    """Whether a request can name a file."""
+    """Whether a request can contain this path."""
     return not set(path) & set("\r\n") and len(f"SET,{path}".encode()) <= LONGEST_REQUEST
