@@ -2,7 +2,7 @@
 use Rattle.std.proofs.Common.{◌≡◌, ℕ, ◌+◌, ◌≤◌, ◌<◌, ◌^◌, List, [], ◌∷◌, length, map, replicate}
 use Rattle.std.proofs.Common.{ℤ, ◌+ℤ◌, ◌*ℤ◌, refl, arith, w32, w64, to_z, of_z, FitsSigned, lit<}
 use Rattle.std.specs.Prelude.{All, nat_abs}
-use Rattle.std.specs.Simd.Lanes.{Each1, Each2, zip2}
+use Rattle.std.specs.Simd.Lanes.{Each2, zip2}
 use Rattle.std.proofs.lemmas.Int.{ints, to_z-of_z, fits_signed_from_abs}
 use Rattle.std.proofs.lemmas.List.Elements.{All-nil, All-cons, All-head, All-tail, All-map}
 use Rattle.span_money.proofs.WordLemmas.{same_64}
@@ -36,22 +36,14 @@ lanes_kept (z ∷ zs) n lt small =
 value_fits : (v : ℤ) → IsWithin MAX_ARRAY_VALUE v → FitsSigned w32 v
 value_fits v small = let below : nat_abs v < 2 ^ 31 = omega arith in fits_signed_from_abs w32 v below
 
-pub values_fit : (vs : List ℤ) → All (IsWithin MAX_ARRAY_VALUE) vs → Each1 (λ (b : ℕ). FitsSigned w32 (to_z w64 b)) (bits_of vs)
-values_fit [] small = tt
-values_fit (v ∷ vs) small =
-    let one = All-head (IsWithin MAX_ARRAY_VALUE) v vs small in (
-      rw (same_64 v MAX_ARRAY_VALUE one (lit< tt)) (value_fits v one),
-      values_fit vs (All-tail (IsWithin MAX_ARRAY_VALUE) v vs small),
-    )
-
 pub values_kept : (vs : List ℤ) → All (IsWithin MAX_ARRAY_VALUE) vs
-    → numbers_in (map (λ (b : ℕ). of_z w64 (to_z w32 b)) (map (λ (b : ℕ). of_z w32 (to_z w64 b)) (bits_of vs))) ≡ vs
+    → numbers_in (map (λ (b : ℕ). of_z w64 (to_z w32 b)) (map (of_z w32) vs)) ≡ vs
 values_kept [] small = refl
 values_kept (v ∷ vs) small =
     let one = All-head (IsWithin MAX_ARRAY_VALUE) v vs small in
     let same = same_64 v MAX_ARRAY_VALUE one (lit< tt) in
     let rest = values_kept vs (All-tail (IsWithin MAX_ARRAY_VALUE) v vs small) in
-    rw (same, to_z-of_z w32 v (value_fits v one), same, rest) refl
+    rw (to_z-of_z w32 v (value_fits v one), same, rest) refl
 
 -- the terms of a net quantity fit in 64 bits
 term_fits : (net v : ℤ) → IsWithin MAX_NET net → IsWithin MAX_ARRAY_VALUE v

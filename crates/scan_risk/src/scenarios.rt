@@ -8,7 +8,7 @@ ghost use Rattle.scan_risk.specs.Scenarios.{scenario_sums};
 use span_tables::held::Held;
 use span_tables::limits::SCENARIOS;
 use span_tables::records::Contract;
-use std::simd::i64x16;
+use std::simd::{i32x16, i64x16};
 
 // Returns a net quantity in each lane. The cast shows that it fits in 32 bits. The processor multiplies two lanes of
 // such numbers with one multiplication, and lanes of 64-bit numbers with three.
@@ -19,15 +19,12 @@ fn net_lanes(net: i64) -> i64x16
     i64x16::splat(i64::from(net as i32))
 }
 
-// Returns the array values of a contract, one in each lane. The casts show that they fit in 32 bits, like a net
-// quantity.
+// Returns the array values of a contract, one in each lane. Like a net quantity, they are known to fit in 32 bits.
 fn value_lanes(contract: &Contract) -> i64x16
     requires { IsContract contract.now }
     ensures { result ≡ (contract.now).values }
 {
-    i64x16::from_array(contract.values)
-        .cast::<i32>()
-        .cast::<i64>()
+    i32x16::from_array(contract.values).cast::<i64>()
 }
 
 // Returns the term that a net quantity of a contract adds to the sum of each scenario, in minor units.

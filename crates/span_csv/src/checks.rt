@@ -43,7 +43,7 @@ fn check_fields(
     profile: u8,
     kind: Kind,
     row: &Row,
-    values: &mut [i64; SCENARIOS],
+    values: &mut [i32; SCENARIOS],
 ) -> Result<(), ParamFault>
     requires { kind_of row.now ≡ Some kind }
     ensures values { OnOk result (HasValues kind row.now values.new) }
@@ -76,7 +76,7 @@ pub(crate) fn check_form(
     at: usize,
     profile: u8,
     row: &Row,
-    values: &mut [i64; SCENARIOS],
+    values: &mut [i32; SCENARIOS],
 ) -> Result<Kind, ParamFault>
     ensures values { IfOk result (λ kind. HasValues kind row.now values.new) }
     ensures kind { MatchResult result

@@ -57,7 +57,7 @@ fn extras(row: &Row) -> ContractExtras
     }
 }
 
-fn contract_record(row: &Row, values: &[i64; SCENARIOS]) -> Contract
+fn contract_record(row: &Row, values: &[i32; SCENARIOS]) -> Contract
     requires fits { FitsKind kind.Contract row.now }
     requires values { values.now ≡ array_values row.now }
     ensures { result ≡ contract_record row.now }
@@ -172,7 +172,7 @@ fn inter_record(row: &Row) -> InterRecord
 }
 
 /// Returns the value of a record of a kind. `values` is the risk array of a CONTRACT, which has been read before.
-pub(crate) fn record_of_kind(kind: Kind, row: &Row, values: &[i64; SCENARIOS]) -> Record
+pub(crate) fn record_of_kind(kind: Kind, row: &Row, values: &[i32; SCENARIOS]) -> Record
     requires fits { FitsKind kind row.now }
     requires values { HasValues kind row.now values.now }
     ensures { result ≡ record_of_kind kind row.now }

@@ -248,7 +248,7 @@ fn all_from(test: FieldTest, forms: &[FieldForm], row: &Row, place: usize) -> bo
 }
 
 // Returns whether each value of a risk array is a number in its range. If so, `values` contains them.
-fn read_values(row: &Row, values: &mut [i64; SCENARIOS]) -> bool
+fn read_values(row: &Row, values: &mut [i32; SCENARIOS]) -> bool
     requires { EXTRAS ≤ length row.now }
     ensures told { result ≡ list_all (passes field_test.All an_array_value) (take SCENARIOS (drop array_place row.now)) }
     ensures values { result ≡ true → values.new ≡ array_values row.now }
@@ -258,14 +258,14 @@ fn read_values(row: &Row, values: &mut [i64; SCENARIOS]) -> bool
         if !is_within(LOWEST_VALUE, HIGHEST_VALUE, value) {
             return false;
         }
-        values[i] = value.unwrap_or(0);
+        values[i] = value.unwrap_or(0) as i32;
     }
     true
 }
 
 // Returns whether each field of a CONTRACT after the first passes all tests of its form. If so, `values` contains its
 // risk array.
-fn fits_contract(profile: u8, row: &Row, values: &mut [i64; SCENARIOS]) -> bool
+fn fits_contract(profile: u8, row: &Row, values: &mut [i32; SCENARIOS]) -> bool
     requires { length row.now ≡ length (contract_forms profile (product_at row.now 3)) + 1 }
     ensures told { result
         ≡ all_have (passes field_test.All) (contract_forms profile (product_at row.now 3)) (drop 1 row.now) }
@@ -349,7 +349,7 @@ pub(crate) fn fits(
     profile: u8,
     layout: &Layout,
     row: &Row,
-    values: &mut [i64; SCENARIOS],
+    values: &mut [i32; SCENARIOS],
 ) -> bool
     requires found { forms_of kind profile (product_at row.now 3) (length row.now - 1) ≡ Some layout.now }
     requires count { length row.now ≡ length layout.now + 1 }

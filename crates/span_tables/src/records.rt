@@ -76,7 +76,7 @@ pub struct Contract {
     pub month: u32,
     pub delta: Delta,
     pub scale: Scale,
-    pub values: [i64; SCENARIOS],
+    pub values: [i32; SCENARIOS],
     pub extras: ContractExtras,
 }
 
