@@ -4,7 +4,8 @@ use Rattle.spread_stage.specs.Spreads.{is_in_tier}
 use Rattle.spread_stage.specs.near.Uses.{part_in_tier}
 use Rattle.spread_stage.proofs.PlaceLemmas.{before_tier, behind_tier, within_tier}
 use Rattle.spread_stage.proofs.tiers.part_in_tier.Goals as goal
-use Rattle.spread_stage.proofs.tiers.part_in_tier.Goals.{else-leg-month-via-then-leg-month+else-month-leg, else-leg-month-via-else-leg-month}
+use Rattle.spread_stage.proofs.tiers.part_in_tier.Goals.{else-leg-month-via-then-leg-month+else-month-leg}
+use Rattle.spread_stage.proofs.tiers.part_in_tier.Goals.{else-leg-month-via-else-leg-month}
 
 pub returns-then-month-leg-clause-value : goal.returns-then-month-leg-clause-value
 unfolding part_in_tier
@@ -21,7 +22,9 @@ returns-else-leg-month-clause-value c =
     let m = c.args.month.now in
     let none : is_in_tier c.args.leg.now m ≡ false =
     elim c.else-leg-month.branch [
-      | else-leg-month-via-then-leg-month+else-month-leg w ↦ let high = w.if-month-leg.false in behind_tier c.args.leg.now m (omega (arith, high))
-      | else-leg-month-via-else-leg-month w ↦ let low = w.if-leg-month.false in before_tier c.args.leg.now m (omega (arith, low))
+      | else-leg-month-via-then-leg-month+else-month-leg w ↦
+          let high = w.if-month-leg.false in behind_tier c.args.leg.now m (omega (arith, high))
+      | else-leg-month-via-else-leg-month w ↦
+          let low = w.if-leg-month.false in before_tier c.args.leg.now m (omega (arith, low))
     ] in
     sym (ap (λ b. cond b (part_on c.args.on m.units) 0) none)
