@@ -3,6 +3,8 @@
 ghost use Rattle.std.specs.Prelude.{◌≡◌, false, ◌+◌, ◌*◌, ◌<◌, ◌≤◌, List, [], ◌∷◌, length, sum_by, All, IfOk, OnOk, OnErr};
 ghost use Rattle.span_tables.specs.Accepted.{IsIntra};
 ghost use Rattle.span_tables.specs.Sides.{part_on, spreads_formed};
+ghost use Rattle.span_tables.specs.Spreads.{IntraSpread};
+ghost use Rattle.span_tables.specs.near.Tiers.{AreOfTiers};
 ghost use Rattle.span_tables.specs.declared.limits.TheConstants.{MAX_RATE, MAX_UNITS};
 ghost use Rattle.spread_stage.specs.Months.{AreTierRests, MonthsRise, Shrinks, total_size};
 ghost use Rattle.spread_stage.specs.Spreads.{formed_both, formed_in, rests_after, rests_after_leg, spread_both_ways};
@@ -20,6 +22,7 @@ use span_tables::legs::MonthLeg;
 use span_tables::records::Intra;
 use span_tables::sides::{Direction, MarketSide, SpreadsFormed, less_used, market_side, part_on};
 use span_tables::slots::OpenSides;
+use span_tables::tier_slots::TierMonths;
 use std::alloc::{AllocError, Global};
 use std::marker::Model;
 
@@ -102,14 +105,15 @@ impl TierState {
         })
     }
 
-    /// Returns whether a spread may be formed. If `false`, the spread changes nothing. If `true`, it may still form
-    /// nothing, since a side that spreads used up still counts.
+    /// Returns whether a spread with these months may be formed. If `false`, the spread changes nothing. If `true`, it may
+    /// still form nothing, since a side that spreads used up still counts.
     #[inline(always)]
-    pub fn may_spread(&self, intra: &Intra) -> bool
-        ensures { result ≡ false → spread_both_ways self.now intra.now ≡ self.now }
+    pub fn may_spread(&self, months: &TierMonths) -> bool
+        ensures { result ≡ false → (intra : IntraSpread) → AreOfTiers months.now intra.legs
+            → spread_both_ways self.now intra ≡ self.now }
     {
-        intra.may_form(Direction::ALong, &self.sides)
-            || intra.may_form(Direction::AShort, &self.sides)
+        months.may_form(Direction::ALong, &self.sides)
+            || months.may_form(Direction::AShort, &self.sides)
     }
 
     /// Forms one more spread in both directions, with side A long first.

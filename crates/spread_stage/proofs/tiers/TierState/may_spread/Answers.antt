@@ -5,8 +5,8 @@ use Rattle.spread_stage.proofs.ClosedLemmas.{both_ways_closed}
 use Rattle.spread_stage.proofs.tiers.TierState.may_spread.Goals as goal
 
 pub returns-else-may_form : goal.returns-else-may_form
-returns-else-may_form c none =
-    both_ways_closed c.args.self.now c.args.intra.now c.self.inside.sides
+returns-else-may_form c none intra are =
+    both_ways_closed c.args.self.now intra c.self.inside.sides
     (subst (λ (t : TierRests). HaveSides c.self.inside.sides t.rests) c.self.view_is c.self.invariant.have)
-    (λ marked. sym c.if-may_form.false ∙ c.may_form.ensures marked)
-    (λ marked. sym none ∙ c.may_form-else-may_form.ensures marked)
+    (λ marked. sym c.if-may_form.false ∙ c.may_form.ensures intra.legs are marked)
+    (λ marked. sym none ∙ c.may_form-else-may_form.ensures intra.legs are marked)
