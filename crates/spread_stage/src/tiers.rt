@@ -106,7 +106,7 @@ impl TierState {
     }
 
     /// Returns whether a spread with these months may be formed. If `false`, the spread changes nothing. If `true`, it may
-    /// still form nothing, since a side that spreads used up still counts.
+    /// still form nothing, since a side that spreads have used up may still count.
     #[inline(always)]
     pub fn may_spread(&self, months: &TierMonths) -> bool
         ensures { result ≡ false → (intra : IntraSpread) → AreOfTiers months.now intra.legs
