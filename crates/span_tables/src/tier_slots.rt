@@ -43,8 +43,10 @@ impl TierMonths {
         ensures { (legs : List MonthLeg) → AreOfTiers self.now legs
             → All (λ leg. IsTierMarked (numbers_on (market_side direction leg.side) sides.now) leg) legs → result ≡ true }
     {
-        may_have(sides.on(market_side(direction, Side::A)), self.a)
-            && may_have(sides.on(market_side(direction, Side::B)), self.b)
+        let TierMonths { a, b } = *self;
+        let on_a = sides.on(market_side(direction, Side::A));
+        let on_b = sides.on(market_side(direction, Side::B));
+        may_have(on_a, a) & may_have(on_b, b)
     }
 }
 
@@ -90,5 +92,5 @@ fn months_on(legs: &[MonthLeg], side: Side) -> Slots
 fn may_have(marked: Slots, months: Slots) -> bool
     ensures { result ≡ may_have marked months }
 {
-    months.is_none() || marked.meets(months)
+    months.is_none() | marked.meets(months)
 }

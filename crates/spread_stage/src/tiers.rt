@@ -10,7 +10,6 @@ ghost use Rattle.spread_stage.specs.Months.{AreTierRests, MonthsRise, Shrinks, t
 ghost use Rattle.spread_stage.specs.Spreads.{formed_both, formed_in, rests_after, rests_after_leg, spread_both_ways};
 ghost use Rattle.spread_stage.specs.Spreads.{spread_one_way, tier_rooms, tier_side, unspread};
 ghost use Rattle.spread_stage.specs.near.Places.{ArePlaces};
-ghost use Rattle.spread_stage.specs.near.Sides.{HaveSides};
 ghost use Rattle.spread_stage.specs.near.Uses.{part_in_tier, used_in_turn};
 ghost use Rattle.spread_stage.specs.declared.months.MonthUnits.{MonthUnits};
 
@@ -113,7 +112,7 @@ impl TierState {
             → spread_both_ways self.now intra ≡ self.now }
     {
         months.may_form(Direction::ALong, &self.sides)
-            || months.may_form(Direction::AShort, &self.sides)
+            | months.may_form(Direction::AShort, &self.sides)
     }
 
     /// Forms one more spread in both directions, with side A long first.
@@ -154,7 +153,6 @@ impl TierState {
         }
         let formed = form(&mut self.rests, &mut self.places, direction, intra.legs());
         self.charge += at_rate(formed, intra.rate());
-        self.sides = sides_after(formed, &self.rests, self.sides);
         formed
     }
 }
@@ -174,11 +172,9 @@ fn part_in_tier(month: &MonthUnits, on: MarketSide, leg: &MonthLeg) -> u64
     ensures value { result ≡ part_in_tier on leg.now month.now }
     ensures bound { result ≤ part_on on (month.now).units }
 {
-    if leg.first <= month.month && month.month <= leg.last {
-        part_on(on, month.units)
-    } else {
-        0
-    }
+    let part = part_on(on, month.units);
+    let in_tier = (leg.first <= month.month) & (month.month <= leg.last);
+    if in_tier { part } else { 0 }
 }
 
 // Returns the side of a leg's tier as `tier_side` does, by one pass over all months. If there are few of them, this takes
@@ -345,18 +341,6 @@ fn form(
         use_legs(rests, places, direction, legs, formed);
     }
     formed
-}
-
-// Returns the sides on which months have a remaining delta after a number of spreads was formed. If there are few months,
-// they are found again, so that no later spread is formed in vain on a side that was used up.
-#[inline(always)]
-fn sides_after(formed: u64, rests: &[MonthUnits], before: OpenSides) -> OpenSides
-    ensures { HaveSides before rests.now → HaveSides result rests.now }
-{
-    if formed > 0 && rests.len() <= FEW_MONTHS {
-        return open_sides(rests);
-    }
-    before
 }
 
 // Returns an amount times a rate: in 10^-8 minor units for units of delta, in 10^-4 minor units for 10^-4 spreads.

@@ -1,30 +1,19 @@
-use Rattle.std.proofs.Common.{◌≡◌, cond, false, ap, sym, ◌∙◌, arith}
+use Rattle.std.proofs.Common.{◌≡◌, cond, false, true, ap, sym, ◌∙◌}
 use Rattle.span_tables.specs.Sides.{part_on}
 use Rattle.spread_stage.specs.Spreads.{is_in_tier}
 use Rattle.spread_stage.specs.near.Uses.{part_in_tier}
-use Rattle.spread_stage.proofs.PlaceLemmas.{before_tier, behind_tier, within_tier}
 use Rattle.spread_stage.proofs.tiers.part_in_tier.Goals as goal
-use Rattle.spread_stage.proofs.tiers.part_in_tier.Goals.{else-leg-month-via-then-leg-month+else-month-leg}
-use Rattle.spread_stage.proofs.tiers.part_in_tier.Goals.{else-leg-month-via-else-leg-month}
 
-pub returns-then-month-leg-clause-value : goal.returns-then-month-leg-clause-value
+pub returns-then-in_tier-clause-value : goal.returns-then-in_tier-clause-value
 unfolding part_in_tier
-returns-then-month-leg-clause-value c =
+returns-then-in_tier-clause-value c =
     let m = c.args.month.now in
-    let low = c.if-leg-month.true in
-    let high = c.if-month-leg.true in
-    c.part_on.ensures.value ∙ sym (ap (λ b. cond b (part_on c.args.on m.units) 0)
-    (within_tier c.args.leg.now m (omega (arith, low)) (omega (arith, high))))
+    let inside : is_in_tier c.args.leg.now m ≡ true = c.if-in_tier.true in
+    c.part_on-part.ensures.value ∙ sym (ap (λ b. cond b (part_on c.args.on m.units) 0) inside)
 
-pub returns-else-leg-month-clause-value : goal.returns-else-leg-month-clause-value
+pub returns-else-in_tier-clause-value : goal.returns-else-in_tier-clause-value
 unfolding part_in_tier
-returns-else-leg-month-clause-value c =
+returns-else-in_tier-clause-value c =
     let m = c.args.month.now in
-    let none : is_in_tier c.args.leg.now m ≡ false =
-    elim c.else-leg-month.branch [
-      | else-leg-month-via-then-leg-month+else-month-leg w ↦
-          let high = w.if-month-leg.false in behind_tier c.args.leg.now m (omega (arith, high))
-      | else-leg-month-via-else-leg-month w ↦
-          let low = w.if-leg-month.false in before_tier c.args.leg.now m (omega (arith, low))
-    ] in
-    sym (ap (λ b. cond b (part_on c.args.on m.units) 0) none)
+    let outside : is_in_tier c.args.leg.now m ≡ false = c.if-in_tier.false in
+    sym (ap (λ b. cond b (part_on c.args.on m.units) 0) outside)

@@ -28,17 +28,11 @@ invariant_of-self c =
     let size : total_size c.deref_mut.result.now ≡ total_size before.rests = ap total_size c.deref_mut.ensures.value in
     let same : (with_items c.self.inside.rests rests).items ≡ rests = with_items_is c.self.inside.rests rests (search rules) in
     let places = c.form-formed.new.places in
-    let after : AreTiers (record { rests = rests; charge = charge }) c.self.inside.sides places =
-    tiers_after before c.self.inside.sides c.self.inside.places places rests charge c.self.invariant c.form-formed.ensures.rise
+    subst (λ (ms : List MonthUnits). AreTiers (record { rests = ms; charge = charge }) c.self.inside.sides places) (sym same)
+    (tiers_after before c.self.inside.sides c.self.inside.places places rests charge c.self.invariant c.form-formed.ensures.rise
     (c.form-formed.ensures.shrinks c.self.inside.rests.items
     (rw c.deref_mut.ensures.value (shrinks_none c.self.inside.rests.items)))
-    (omega (arith, size, c.at_rate.ensures.bound, c.form-formed.ensures.less)) c.form-formed.ensures.places in
-    let sides = c.sides_after-self-inside.result in
-    let seen : c.deref.result.now ≡ rests = c.deref.ensures.value ∙ same in
-    let have : HaveSides sides rests =
-    subst (HaveSides sides) seen (c.sides_after-self-inside.ensures (subst (HaveSides c.self.inside.sides) (sym seen) after.have)) in
-    subst (λ (ms : List MonthUnits). AreTiers (record { rests = ms; charge = charge }) sides places) (sym same)
-    (record { rests = after.rests; have = have; at = after.at })
+    (omega (arith, size, c.at_rate.ensures.bound, c.form-formed.ensures.less)) c.form-formed.ensures.places)
 
 pub returns-then-not-may_form-clause-value : goal.returns-then-not-may_form-clause-value
 returns-then-not-may_form-clause-value c = sym (one_way_none c.args.self.now c.args.intra.now c.args.direction (closed c))
