@@ -111,7 +111,7 @@ pub fn changes_nothing(tables: &Tables, op: Op, first: &Value, rest: &[Arc<Value
         → value_on tables.now holdings op (first.now ∷ map arc_value rest.now) ≡ first.now }
 {
     match op {
-        Op::Spread(c, j) => !first.tiers().may_spread(intra_at(tables, c, j).months()),
+        Op::Spread(c, j) => !first.tiers().may_spread(intra_at(tables, c, j)),
         Op::InterLoad(_) => loads_nothing(rest[0].months(), rest[1].scan()),
         Op::InterSpread(j) => !first.inter().may_spread(inter_at(tables, j)),
         Op::TotalAdd(_) => rest[0].figures().requirement.get() == 0,

@@ -5,7 +5,6 @@ pub mod OrderLaws
 pub mod SpreadLaws
 pub mod SlotLemmas
 pub mod TierLemmas
-pub mod ZipLemmas
 mod LegSlots
 pub mod Places
 pub mod HeldLemmas

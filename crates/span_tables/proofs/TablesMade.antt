@@ -1,13 +1,8 @@
 -- The lists that are computed from accepted tables in advance agree with the tables.
 use Rattle.std.proofs.Common.{◌≡◌, ℕ, suc, zero, ◌<◌, true, List, [], ◌∷◌}
-use Rattle.std.proofs.Common.{length, map, filter, get_or, refl, sym, ap, subst, ◌∙◌, arith}
+use Rattle.std.proofs.Common.{length, map, filter, get_or, refl, ap, ◌∙◌, arith}
 use Rattle.std.specs.Prelude.{bytes_eq, option_map, slice_get, unwrap_or}
-use Rattle.std.specs.List.{AllZip}
 use Rattle.std.proofs.lemmas.List.{length-map}
-use Rattle.std.proofs.lemmas.Slice.Zip.{AllZip-long}
-use Rattle.span_tables.specs.near.Tiers.{AreMonthsOf}
-use Rattle.span_tables.specs.declared.tier_slots.TierMonths.{TierMonths}
-use Rattle.span_tables.proofs.ZipLemmas.{zipped_at}
 use Rattle.span_tables.specs.Accepted.{commodity_number}
 use Rattle.span_tables.specs.near.Kept.{IsAccepted, IsTables, tables_from}
 use Rattle.span_tables.specs.Tables.{commodity_id}
@@ -56,30 +51,18 @@ module _ (t : AcceptedTables) (accepted : IsAccepted t) where
   unfolding inters_of
   inters_all inters is = is
 
-  months_at : (intras : List (List Intra)) (months : List (List TierMonths)) → intras
-      ≡ map (λ c. map (intra_spread t.tiers) (filter (λ s. bytes_eq s.commodity c.id) t.intra_records)) t.commodities
-      → AllZip AreMonthsOf months intras
-      → (c : ℕ) → c < length t.commodities → AreMonthsOf (get_or months c []) (intras_of t (commodity_id t c))
-  months_at intras months is are c lt =
-      subst (AreMonthsOf (get_or months c [])) (intras_at intras is c lt)
-      (zipped_at AreMonthsOf months intras c [] [] are (rw is (rw (length-map t.commodities _) lt)))
-
-  pub are_tables : (numbers : List ℕ) (intras : List (List Intra)) (months : List (List TierMonths)) (spots : List (List Spot))
-      (inters : List Inter)
+  pub are_tables : (numbers : List ℕ) (intras : List (List Intra)) (spots : List (List Spot)) (inters : List Inter)
       → numbers ≡ map (λ x. commodity_number t.commodities x.commodity) t.contracts
       → intras ≡ map (λ c. map (intra_spread t.tiers) (filter (λ s. bytes_eq s.commodity c.id) t.intra_records)) t.commodities
-      → AllZip AreMonthsOf months intras
       → spots ≡ map (λ c. filter (λ s. bytes_eq s.commodity c.id) t.spots) t.commodities
       → inters ≡ map (inter_spread t.commodities) t.inter_records
-      → IsTables t numbers intras months spots inters
-  are_tables numbers intras months spots inters n i m s x = record {
+      → IsTables t numbers intras spots inters
+  are_tables numbers intras spots inters n i s x = record {
     accepted = accepted;
     limits = accepted_limits t accepted;
     numbers_are = n;
     every_intra = ap length i ∙ length-map t.commodities _;
     intras_are = intras_at intras i;
-    every_months = sym (AllZip-long AreMonthsOf months intras m) ∙ ap length i ∙ length-map t.commodities _;
-    months_are = months_at intras months i m;
     every_spot = ap length s ∙ length-map t.commodities _;
     spots_are = spots_at spots s;
     inters_are = inters_all inters x;

@@ -8,7 +8,7 @@ use crate::limits::SCENARIOS;
 use crate::name::Name;
 use crate::sides::{Direction, Side, market_side};
 use crate::slots::{OpenSides, Slots};
-use crate::tier_slots::TierMonths;
+use crate::tier_slots::{may_have, months_on};
 use arrayvec::ArrayVec;
 use span_money::amounts::{Delta, Ratio, Scale};
 use std::marker::Model;
@@ -226,7 +226,9 @@ pub struct OrderRecord {
 #[derive(Drop)]
 pub struct Intra {
     legs: ArrayVec<MonthLeg, 4>,
-    months: TierMonths,
+    // The months of the tier of the first leg on side A, and of the first leg on side B.
+    a: Slots,
+    b: Slots,
     rate: u32,
     priority: u32,
 }
@@ -239,23 +241,24 @@ impl Model for Intra {
 
     ghost view = { λ s. record { priority = s.priority; rate = s.rate; legs = s.legs.items } };
 
-    ghost invariant = { λ s. AreOfTiers s.months s.legs.items };
+    ghost invariant = { λ s. AreOfTiers s.a s.b s.legs.items };
 }
 
 impl Intra {
     ghost use Rattle.std.specs.Prelude.{◌≡◌, All, true};
     ghost use Rattle.span_tables.specs.Sides.{market_side};
     ghost use Rattle.span_tables.specs.Slots.{IsTierMarked, numbers_on};
-    ghost use Rattle.span_tables.specs.near.Tiers.{AreOfTiers};
 
     /// Returns a spread with this priority, this rate in minor units a spread, and these legs.
     pub fn new(priority: u32, rate: u32, legs: ArrayVec<MonthLeg, 4>) -> Intra
         ensures { result ≡ record { priority = priority; rate = rate; legs = legs.items } }
     {
-        let months = TierMonths::of_legs(&legs);
+        let a = months_on(&legs, Side::A);
+        let b = months_on(&legs, Side::B);
         Intra {
             legs,
-            months,
+            a,
+            b,
             rate,
             priority,
         }
@@ -282,21 +285,16 @@ impl Intra {
         &self.legs
     }
 
-    /// Returns the months of the tiers of the legs.
-    #[inline(always)]
-    pub fn months(&self) -> &TierMonths
-        ensures { AreOfTiers result.now self.now.legs }
-    {
-        &self.months
-    }
-
     /// Returns whether the tier of each leg may have a remaining delta on the side of the market that the leg needs in
-    /// a direction, as `TierMonths::may_form` does.
+    /// a direction. It checks only the first leg on each side.
+    ///
+    /// If it returns `false`, the tier of a leg has no such remaining delta.
     #[inline(always)]
     pub fn may_form(&self, direction: Direction, sides: &OpenSides) -> bool
         ensures { All (λ leg. IsTierMarked (numbers_on (market_side direction leg.side) sides.now) leg) self.now.legs → result ≡ true }
     {
-        self.months.may_form(direction, sides)
+        may_have(sides.on(market_side(direction, Side::A)), self.a)
+            && may_have(sides.on(market_side(direction, Side::B)), self.b)
     }
 }
 

@@ -1,11 +1,9 @@
 //! Spreads with the months of their tiers, or with their commodity numbers.
 ghost use Rattle.std.specs.Prelude.{◌≡◌, ◌<◌, ◌&&◌, ◌==◌, length, map};
 ghost use Rattle.std.specs.Prelude.{filter, find, option_copied, bytes_eq, false, All, IfOk};
-ghost use Rattle.std.specs.List.{AllZip};
 ghost use Rattle.span_tables.specs.Accepted.{commodity_number};
 ghost use Rattle.span_tables.specs.Names.{has_repeat};
 ghost use Rattle.span_tables.specs.Tables.{commodity_leg, inter_spread, intra_spread, month_leg};
-ghost use Rattle.span_tables.specs.near.Tiers.{AreMonthsOf};
 
 use crate::groups::{empty_lists, number_near, number_of, push_at, tiers_by_commodity};
 use crate::legs::MonthLeg;
@@ -13,7 +11,6 @@ use crate::name::Name;
 use crate::records::{
     Commodity, CommodityLeg, Inter, InterLeg, InterRecord, Intra, IntraLeg, IntraRecord, Tier,
 };
-use crate::tier_slots::TierMonths;
 use arrayvec::ArrayVec;
 use std::alloc::{AllocError, Global};
 
@@ -75,31 +72,6 @@ pub(crate) fn intras_by_commodity(
         place = number_near(commodities, place, &spread.commodity);
         let intra = intra_of(&tier_lists[place], spread);
         push_at(&mut lists, place, intra)?;
-    }
-    Ok(lists)
-}
-
-// Returns the months of each of these spreads.
-fn months_of(alloc: Global, intras: &[Intra]) -> Result<Vec<TierMonths>, AllocError>
-    ensures { IfOk result (λ months. AreMonthsOf months.items intras.now) }
-{
-    let mut list = Vec::with_capacity(alloc, intras.len())?;
-    for intra in intras {
-        list.push(*intra.months())?;
-    }
-    Ok(list)
-}
-
-// Returns the months of each spread of each commodity.
-pub(crate) fn months_by_commodity(
-    alloc: Global,
-    intras: &[Vec<Intra>],
-) -> Result<Vec<Vec<TierMonths>>, AllocError>
-    ensures { IfOk result (λ lists. AllZip AreMonthsOf (map (λ v. v.items) lists.items) (map (λ v. v.items) intras.now)) }
-{
-    let mut lists = Vec::with_capacity(alloc, intras.len())?;
-    for spreads in intras {
-        lists.push(months_of(alloc, spreads)?)?;
     }
     Ok(lists)
 }

@@ -4,7 +4,6 @@ ghost use Rattle.std.specs.Prelude.{slice_get, slice_index_or, false, true, All,
 ghost use Rattle.std.specs.Arc.{arc_value};
 ghost use Rattle.span_tables.specs.Accepted.{IsInter, IsIntra, IsSpot, IsWithinLimits, commodity_number};
 ghost use Rattle.span_tables.specs.near.Kept.{IsAccepted, tables_from};
-ghost use Rattle.span_tables.specs.near.Tiers.{AreMonthsOf};
 ghost use Rattle.span_tables.specs.Tables.{commodity_id};
 ghost use Rattle.span_tables.specs.Rules.{keeps_rules};
 ghost use Rattle.span_tables.specs.Tables.{facts_in, inters_of, intras_of, spots_of, tables_of};
@@ -16,8 +15,7 @@ use crate::name::Name;
 use crate::profiles::{ProfileFacts, facts_of};
 use crate::raw::RawTables;
 use crate::records::{Commodity, Contract, Inter, InterRecord, Intra, IntraRecord, Spot, Tier};
-use crate::spreads::{inters_with_numbers, intras_by_commodity, months_by_commodity};
-use crate::tier_slots::TierMonths;
+use crate::spreads::{inters_with_numbers, intras_by_commodity};
 use std::alloc::{AllocError, Global};
 use std::marker::Model;
 use std::sync::Arc;
@@ -37,8 +35,7 @@ pub struct Counts {
 ///
 /// Commodities and contracts are numbered from 0 in file order, and spreads are sorted by priority. In addition to the
 /// records, the tables have the commodity number of each contract, spreads with their months or commodity numbers, and
-/// the spot months of each commodity. The months of the intracommodity spreads are also in lists of their own, which fit
-/// into a cache better than the spreads.
+/// the spot months of each commodity.
 #[derive(Drop)]
 pub struct Tables {
     set_id: Name,
@@ -51,7 +48,6 @@ pub struct Tables {
     inter_records: Vec<InterRecord>,
     commodity_numbers: Vec<usize>,
     intras: Vec<Vec<Intra>>,
-    intra_months: Vec<Vec<TierMonths>>,
     spot_months: Vec<Vec<Spot>>,
     inters: Vec<Inter>,
 }
@@ -86,8 +82,8 @@ impl Model for Tables {
           spots = t.spots.items;
           inter_records = t.inter_records.items;
         })
-        t.commodity_numbers.items (map (λ v. v.items) t.intras.items) (map (λ v. v.items) t.intra_months.items)
-        (map (λ v. v.items) t.spot_months.items) t.inters.items };
+        t.commodity_numbers.items (map (λ v. v.items) t.intras.items) (map (λ v. v.items) t.spot_months.items)
+        t.inters.items };
 }
 
 // Returns the list at index `place`.
@@ -126,7 +122,6 @@ impl Tables {
         let spots = kinds.spots.as_slice();
         let commodity_numbers = numbers_of(alloc, commodities, &kinds.contracts)?;
         let intras = intras_by_commodity(alloc, commodities, tiers, spreads)?;
-        let intra_months = months_by_commodity(alloc, &intras)?;
         let spot_months = spots_by_commodity(alloc, commodities, spots)?;
         let inters = inters_with_numbers(alloc, commodities, &kinds.inters)?;
         let contracts = Arc::new(alloc, kinds.contracts)?;
@@ -141,7 +136,6 @@ impl Tables {
             inter_records: kinds.inters,
             commodity_numbers,
             intras,
-            intra_months,
             spot_months,
             inters,
         })
@@ -246,14 +240,6 @@ impl Tables {
         ensures in_range { All IsIntra result.now }
     {
         list_at(&self.intras, commodity)
-    }
-
-    /// Returns the months of each intracommodity spread of the commodity with this number, by rising priority.
-    pub fn intra_months(&self, commodity: usize) -> &[TierMonths]
-        requires { commodity < length self.now.commodities }
-        ensures { AreMonthsOf result.now (intras_of self.now (commodity_id self.now commodity)) }
-    {
-        list_at(&self.intra_months, commodity)
     }
 
     /// Returns the spot months of the commodity with this number, in file order.

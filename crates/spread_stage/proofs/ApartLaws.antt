@@ -18,10 +18,9 @@ use Rattle.spread_stage.specs.Laws.{draw_apart, DrawApart}
 use Rattle.spread_stage.specs.Months.{MonthsRise}
 use Rattle.spread_stage.specs.Spreads.{is_in_tier, tier_side, used_of_month, rests_after, rests_after_leg}
 use Rattle.spread_stage.specs.declared.months.MonthUnits.{MonthUnits}
-use Rattle.spread_stage.specs.near.Uses.{part_in_tier}
 use Rattle.spread_stage.proofs.FallLemmas.{side_falls}
 use Rattle.spread_stage.proofs.SpreadLemmas.{leg_rise, none_used, within}
-use Rattle.spread_stage.proofs.UseLaws.{side-cons}
+use Rattle.spread_stage.proofs.UseLaws.{side-cons, weight}
 
 -- ---- using one side of the market leaves the other side unchanged
 
@@ -53,7 +52,7 @@ other_part d side.B side.B e z u h = cc
 -- ---- a leg that draws apart leaves another leg's side unchanged
 
 other_side : (on : MarketSide) (leg : MonthLeg) (f : MonthUnits → MonthUnits)
-    → ((m : MonthUnits) → part_in_tier on leg (f m) ≡ part_in_tier on leg m) → (ms : List MonthUnits)
+    → ((m : MonthUnits) → weight on leg (f m) ≡ weight on leg m) → (ms : List MonthUnits)
     → tier_side (map f ms) on leg ≡ tier_side ms on leg
 other_side on leg f same [] = refl
 other_side on leg f same (m ∷ ms) =
@@ -100,7 +99,7 @@ module _ (d : Direction) (leg other : MonthLeg) (needed : ℕ) (rests : List Mon
   pub side_kept : draw_apart leg other ≡ true
       → tier_side (rests_after_leg (market_side d other.side) needed rests other) (market_side d leg.side) leg
       ≡ tier_side rests (market_side d leg.side) leg
-  unfolding part_in_tier
+  unfolding weight
   side_kept apart =
       other_side (market_side d leg.side) leg
       (λ m. record { month = m.month; units = less_used (market_side d other.side) m.units (used m) })

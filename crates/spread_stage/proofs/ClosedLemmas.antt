@@ -26,10 +26,9 @@ use Rattle.spread_stage.specs.near.Places.{ArePlaces}
 use Rattle.spread_stage.specs.near.Sides.{AreTiers, HaveSides}
 use Rattle.spread_stage.specs.declared.months.MonthUnits.{MonthUnits}
 use Rattle.spread_stage.specs.declared.tier_places.TierPlaces.{TierPlaces}
-use Rattle.spread_stage.specs.near.Uses.{part_in_tier}
 use Rattle.spread_stage.proofs.SpreadBounds.{no_months, unspread_are}
 use Rattle.spread_stage.proofs.SpreadLemmas.{legs_none}
-use Rattle.spread_stage.proofs.UseLaws.{side-cons}
+use Rattle.spread_stage.proofs.UseLaws.{side-cons, weight}
 
 -- ---- the sides of months
 
@@ -112,7 +111,7 @@ tier_by on sides leg m (suc n) rest first others above = first (omega arith)
 tier_marked : (on : MarketSide) (sides : OpenSides) (leg : MonthLeg) (rests : List MonthUnits) → HaveSides sides rests
     → 0 < tier_side rests on leg
     → IsTierMarked (numbers_on on sides) leg
-unfolding part_in_tier
+unfolding weight
 tier_marked on sides leg [] have above = absurd (omega (arith, above))
 tier_marked on sides leg (m ∷ ms) have above =
     let P : MonthUnits → Type 0 = λ (x : MonthUnits). IsOpenAt sides (month_count x.month) x.units in

@@ -15,10 +15,9 @@ use Rattle.spread_stage.specs.Months.{MonthsRise, Shrinks}
 use Rattle.spread_stage.specs.Spreads.{is_in_tier, tier_side, side_before, used_of_month, rests_after_leg, tier_rooms, TierRests}
 use Rattle.spread_stage.specs.Spreads.{spread_one_way, spread_both_ways, after_spreads, unspread}
 use Rattle.spread_stage.specs.declared.months.MonthUnits.{MonthUnits}
-use Rattle.spread_stage.specs.near.Uses.{part_in_tier}
 use Rattle.spread_stage.proofs.SizeLemmas.{shrinks_none}
 use Rattle.spread_stage.proofs.SpreadLemmas.{legs_shrink}
-use Rattle.spread_stage.proofs.UseLaws.{side-cons, used_total}
+use Rattle.spread_stage.proofs.UseLaws.{side-cons, weight, used_total}
 
 negative_left : (z : ℤ) (n u : ℕ) → z +ℤ pos n ≡ pos 0 → negative_part z ≡ n
 negative_left (pos k) n u e = omega (arith, ints, e)
@@ -55,7 +54,7 @@ module _ (on : MarketSide) (leg : MonthLeg) (needed : ℕ) (rests : List MonthUn
   after m = record { month = m.month; units = less_used on m.units (used m) }
 
   side_of_all : (ms : List MonthUnits) → tier_side (map after ms) on leg + sum_by used ms ≡ tier_side ms on leg
-  unfolding part_in_tier
+  unfolding weight
   side_of_all [] = refl
   side_of_all (m ∷ ms) =
       let a = side-cons on leg (after m) (map after ms) in

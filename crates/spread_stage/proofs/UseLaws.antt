@@ -11,25 +11,22 @@ use Rattle.span_tables.specs.Sides.{part_on}
 use Rattle.span_tables.specs.declared.sides.MarketSide.{MarketSide}
 use Rattle.spread_stage.specs.Spreads.{is_in_tier, tier_side, side_before, used_of_month}
 use Rattle.spread_stage.specs.Months.{MonthsRise}
-use Rattle.spread_stage.specs.near.Uses.{part_in_tier}
 use Rattle.spread_stage.specs.declared.months.MonthUnits.{MonthUnits}
 use Rattle.span_tables.specs.declared.legs.MonthLeg.{MonthLeg}
 
 module _ (on : MarketSide) (leg : MonthLeg) where
+  -- what a month contributes to the side
+  unfoldable pub weight : MonthUnits → ℕ
+  weight m = cond (is_in_tier leg m) (part_on on m.units) 0
+
   sum_if : (f : MonthUnits → ℕ) (b : Bool) (m : MonthUnits) (xs : List MonthUnits)
       → sum_by f (cond b (m ∷ xs) xs) ≡ cond b (f m) 0 + sum_by f xs
   sum_if f true m xs = sum_by-cons f m xs
   sum_if f false m xs = omega arith
 
-  pub side-cons : (m : MonthUnits) (ms : List MonthUnits) → tier_side (m ∷ ms) on leg ≡ part_in_tier on leg m + tier_side ms on leg
-  unfolding part_in_tier
+  pub side-cons : (m : MonthUnits) (ms : List MonthUnits) → tier_side (m ∷ ms) on leg ≡ weight m + tier_side ms on leg
+  unfolding weight
   side-cons m ms = sum_if (λ x. part_on on x.units) (is_in_tier leg m) m (filter (is_in_tier leg) ms)
-
-  -- the side is the sum of the months' parts in the tier
-  pub side_by_parts : (ms : List MonthUnits) → sum_by (part_in_tier on leg) ms ≡ tier_side ms on leg
-  side_by_parts [] = refl
-  side_by_parts (m ∷ ms) =
-      sum_by-cons (part_in_tier on leg) m ms ∙ ap (λ n. part_in_tier on leg m + n) (side_by_parts ms) ∙ sym (side-cons m ms)
 
   pub side-append : (xs ys : List MonthUnits) → tier_side (xs ++ ys) on leg ≡ tier_side xs on leg + tier_side ys on leg
   side-append xs ys =
@@ -104,7 +101,7 @@ module _ (on : MarketSide) (leg : MonthLeg) where
   used_rest : (needed : ℕ) (front back : List MonthUnits) → Below front back → MonthsRise back
       → sum_by (used_of_month (front ++ back) on leg needed) back + min needed (tier_side front on leg)
       ≡ min needed (tier_side front on leg + tier_side back on leg)
-  unfolding Below part_in_tier
+  unfolding Below weight
   used_rest needed front [] below rise = omega arith
   used_rest needed front (m ∷ ms) below rise =
       let rests = front ++ m ∷ ms in

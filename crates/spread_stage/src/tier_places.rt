@@ -9,8 +9,8 @@ ghost use Rattle.spread_stage.specs.declared.months.MonthUnits.{MonthUnits};
 use crate::months::MonthUnits;
 use span_tables::legs::MonthLeg;
 
-// The largest number of months that are gone through one by one, without a search for the months of a tier.
-pub(crate) const FEW_MONTHS: usize = 8;
+// The largest number of months that are searched one by one.
+const FEW_MONTHS: usize = 8;
 
 // The largest number of tiers whose indices are remembered.
 const REMEMBERED_TIERS: usize = 16;

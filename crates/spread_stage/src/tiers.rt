@@ -3,25 +3,22 @@
 ghost use Rattle.std.specs.Prelude.{◌≡◌, false, ◌+◌, ◌*◌, ◌<◌, ◌≤◌, List, [], ◌∷◌, length, sum_by, All, IfOk, OnOk, OnErr};
 ghost use Rattle.span_tables.specs.Accepted.{IsIntra};
 ghost use Rattle.span_tables.specs.Sides.{part_on, spreads_formed};
-ghost use Rattle.span_tables.specs.Spreads.{IntraSpread};
-ghost use Rattle.span_tables.specs.near.Tiers.{AreOfTiers};
 ghost use Rattle.span_tables.specs.declared.limits.TheConstants.{MAX_RATE, MAX_UNITS};
 ghost use Rattle.spread_stage.specs.Months.{AreTierRests, MonthsRise, Shrinks, total_size};
 ghost use Rattle.spread_stage.specs.Spreads.{formed_both, formed_in, rests_after, rests_after_leg, spread_both_ways};
 ghost use Rattle.spread_stage.specs.Spreads.{spread_one_way, tier_rooms, tier_side, unspread};
 ghost use Rattle.spread_stage.specs.near.Places.{ArePlaces};
-ghost use Rattle.spread_stage.specs.near.Uses.{part_in_tier, used_in_turn};
+ghost use Rattle.spread_stage.specs.near.Uses.{used_in_turn};
 ghost use Rattle.spread_stage.specs.declared.months.MonthUnits.{MonthUnits};
 
 use crate::months::{MonthUnits, Months};
 use crate::open_months::open_sides;
-use crate::tier_places::{FEW_MONTHS, TierPlaces};
+use crate::tier_places::TierPlaces;
 use span_money::division::greatest_fit;
 use span_tables::legs::MonthLeg;
 use span_tables::records::Intra;
 use span_tables::sides::{Direction, MarketSide, SpreadsFormed, less_used, market_side, part_on};
 use span_tables::slots::OpenSides;
-use span_tables::tier_slots::TierMonths;
 use std::alloc::{AllocError, Global};
 use std::marker::Model;
 
@@ -104,15 +101,14 @@ impl TierState {
         })
     }
 
-    /// Returns whether a spread with these months may be formed. If `false`, the spread changes nothing. If `true`, it may
-    /// still form nothing, since a side that spreads have used up may still count.
+    /// Returns whether a spread may be formed. If `false`, the spread changes nothing. If `true`, it may still form
+    /// nothing, since a side that spreads used up still counts.
     #[inline(always)]
-    pub fn may_spread(&self, months: &TierMonths) -> bool
-        ensures { result ≡ false → (intra : IntraSpread) → AreOfTiers months.now intra.legs
-            → spread_both_ways self.now intra ≡ self.now }
+    pub fn may_spread(&self, intra: &Intra) -> bool
+        ensures { result ≡ false → spread_both_ways self.now intra.now ≡ self.now }
     {
-        months.may_form(Direction::ALong, &self.sides)
-            | months.may_form(Direction::AShort, &self.sides)
+        intra.may_form(Direction::ALong, &self.sides)
+            || intra.may_form(Direction::AShort, &self.sides)
     }
 
     /// Forms one more spread in both directions, with side A long first.
@@ -165,28 +161,6 @@ fn sum_on(months: &[MonthUnits], on: MarketSide) -> u64
     months.iter().map(|month| part_on(on, month.units)).sum()
 }
 
-// Returns what a month has on a side of the market if it is in a leg's tier, in units of 10^-8. It is 0 if the month is
-// not in the tier.
-#[inline(always)]
-fn part_in_tier(month: &MonthUnits, on: MarketSide, leg: &MonthLeg) -> u64
-    ensures value { result ≡ part_in_tier on leg.now month.now }
-    ensures bound { result ≤ part_on on (month.now).units }
-{
-    let part = part_on(on, month.units);
-    let in_tier = (leg.first <= month.month) & (month.month <= leg.last);
-    if in_tier { part } else { 0 }
-}
-
-// Returns the side of a leg's tier as `tier_side` does, by one pass over all months. If there are few of them, this takes
-// less time than to find the months of the tier, since no branch depends on the months.
-#[inline(always)]
-fn side_of_few(rests: &[MonthUnits], on: MarketSide, leg: &MonthLeg) -> u64
-    requires { sum_by (part_in_tier on leg.now) rests.now ≤ MAX_UNITS }
-    ensures { result ≡ sum_by (part_in_tier on leg.now) rests.now }
-{
-    rests.iter().map(|month| part_in_tier(month, on, leg)).sum()
-}
-
 // Returns the side of a leg's tier, in units of 10^-8, which is the sum of its months' parts.
 fn tier_side(rests: &[MonthUnits], places: &mut TierPlaces, on: MarketSide, leg: &MonthLeg) -> u64
     requires rise { MonthsRise rests.now }
@@ -195,9 +169,6 @@ fn tier_side(rests: &[MonthUnits], places: &mut TierPlaces, on: MarketSide, leg:
     ensures side { result ≡ tier_side rests.now on leg.now }
     ensures places { ArePlaces places.new rests.now }
 {
-    if rests.len() <= FEW_MONTHS {
-        return side_of_few(rests, on, leg);
-    }
     let (start, end) = places.find(rests, leg);
     sum_on(&rests[start..end], on)
 }
@@ -258,21 +229,6 @@ fn use_months(months: &mut [MonthUnits], on: MarketSide, needed: u64)
     }
 }
 
-// Uses what a leg needs as `use_leg` does, by one pass over all months.
-#[inline(always)]
-fn use_few(rests: &mut [MonthUnits], on: MarketSide, leg: &MonthLeg, needed: u64)
-    requires rise { MonthsRise rests.old }
-    requires small { total_size rests.old ≤ MAX_UNITS }
-    ensures { rests.new ≡ rests_after_leg on needed rests.old leg.now }
-{
-    let mut needed = needed;
-    for month in rests.iter_mut() {
-        let used = part_in_tier(month, on, leg).min(needed);
-        month.units = less_used(on, month.units, used);
-        needed -= used;
-    }
-}
-
 // Uses what a leg needs of its tier's side, from the earliest month on.
 fn use_leg(
     rests: &mut [MonthUnits],
@@ -287,10 +243,6 @@ fn use_leg(
     ensures rests { rests.new ≡ rests_after_leg on needed rests.old leg.now }
     ensures places { ArePlaces places.new rests.new }
 {
-    if rests.len() <= FEW_MONTHS {
-        use_few(rests, on, leg, needed);
-        return;
-    }
     let (start, end) = places.find(rests, leg);
     use_months(&mut rests[start..end], on, needed);
 }

@@ -6,7 +6,6 @@ ghost use Rattle.span_money.specs.declared.amounts.TheConstants.{MAX_MONEY};
 ghost use Rattle.span_tables.specs.Accepted.{IsInter, IsIntra};
 ghost use Rattle.span_tables.specs.Holdings.{fits};
 ghost use Rattle.span_tables.specs.Tables.{facts_in};
-ghost use Rattle.span_tables.specs.near.Tiers.{AreMonthsOf};
 ghost use Rattle.span_tables.specs.declared.portfolios.Holding.{Holding};
 ghost use Rattle.spread_stage.specs.Months.{Shrinks};
 ghost use Rattle.spread_stage.specs.Spreads.{spread_both_ways};
@@ -30,24 +29,20 @@ use span_tables::held::{Held, gather_held};
 use span_tables::portfolios::Portfolio;
 use span_tables::records::{Inter, Intra};
 use span_tables::tables::Tables;
-use span_tables::tier_slots::TierMonths;
 use spread_stage::charges::delivery;
 use spread_stage::months::Months;
 use spread_stage::tiers::TierState;
 use std::alloc::{AllocError, Global};
 
-// Forms the spreads of a commodity, in order. Most spreads form nothing, and their months show it.
+// Forms the spreads of a commodity, in order.
 #[inline(always)]
-fn form_intras(tiers: &mut TierState, months: &[TierMonths], intras: &[Intra])
-    requires months { AreMonthsOf months.now intras.now }
-    requires in_range { All IsIntra intras.now }
+fn form_intras(tiers: &mut TierState, intras: &[Intra])
+    requires { All IsIntra intras.now }
     ensures value { tiers.new ≡ fold spread_both_ways tiers.old intras.now }
     ensures shrinks { (months : List MonthUnits) → Shrinks months tiers.old.rests → Shrinks months tiers.new.rests }
 {
-    for (tier_months, intra) in months.iter().zip(intras) {
-        if tiers.may_spread(tier_months) {
-            tiers.spread(intra);
-        }
+    for intra in intras {
+        tiers.spread(intra);
     }
 }
 
@@ -82,11 +77,7 @@ fn part_of(
     let scan = scan(&sums);
     months.refill(held)?;
     tiers.restart(months)?;
-    form_intras(
-        tiers,
-        tables.intra_months(commodity),
-        tables.intras(commodity),
-    );
+    form_intras(tiers, tables.intras(commodity));
     let delivery = delivery(months, tiers, tables.spots(commodity));
     let minimum = minimum(held, of.minimum_rate, of.method);
     Ok(Part {

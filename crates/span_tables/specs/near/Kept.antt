@@ -8,8 +8,6 @@ use Rattle.span_tables.specs.declared.records.Record.{Record}
 use Rattle.span_tables.specs.declared.records.Spot.{Spot}
 use Rattle.span_tables.specs.declared.records.Intra.{Intra}
 use Rattle.span_tables.specs.declared.records.Inter.{Inter}
-use Rattle.span_tables.specs.declared.tier_slots.TierMonths.{TierMonths}
-use Rattle.span_tables.specs.near.Tiers.{AreMonthsOf}
 use Rattle.span_tables.specs.Accepted.{IsWithinLimits, commodity_number}
 
 -- the tables of records that are listed by kind
@@ -32,18 +30,15 @@ pub record IsAccepted (t : AcceptedTables) : Type 0 where
   pub readable : is_readable records ≡ true
   pub kept : keeps_rules records ≡ true
 
--- accepted tables, with the commodity number of each contract, the spreads of each commodity and their months, the spot
--- months of each commodity, and the intercommodity spreads
-pub record IsTables (t : AcceptedTables) (numbers : List ℕ) (intras : List (List Intra)) (months : List (List TierMonths))
-    (spots : List (List Spot)) (inters : List Inter) : Type 0 where
+-- accepted tables, with the commodity number of each contract, the spreads and spot months of each commodity, and the
+-- intercommodity spreads
+pub record IsTables (t : AcceptedTables) (numbers : List ℕ) (intras : List (List Intra)) (spots : List (List Spot))
+    (inters : List Inter) : Type 0 where
   pub accepted : IsAccepted t
   pub limits : IsWithinLimits t
   pub numbers_are : numbers ≡ map (λ x. commodity_number t.commodities x.commodity) t.contracts
   pub every_intra : length intras ≡ length t.commodities
   pub intras_are : (c : ℕ) → c < length t.commodities → slice_index_or intras c [] ≡ intras_of t (commodity_id t c)
-  pub every_months : length months ≡ length t.commodities
-  pub months_are : (c : ℕ) → c < length t.commodities
-      → AreMonthsOf (slice_index_or months c []) (intras_of t (commodity_id t c))
   pub every_spot : length spots ≡ length t.commodities
   pub spots_are : (c : ℕ) → c < length t.commodities → slice_index_or spots c [] ≡ spots_of t (commodity_id t c)
   pub inters_are : inters ≡ inters_of t

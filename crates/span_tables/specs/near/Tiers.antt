@@ -1,12 +1,9 @@
 -- The months of the legs' tiers, in a word of slots for each side of a spread.
 use Rattle.std.specs.Prelude.{◌≡◌, ◌⊎◌, ℕ, ◌≤◌, ◌==◌, ◌||◌, Bool, Contains, List}
-use Rattle.std.specs.List.{AllZip}
 use Rattle.span_tables.specs.Slots.{IsMarked, meets, month_count}
-use Rattle.span_tables.specs.Spreads.{IntraSpread}
 use Rattle.span_tables.specs.declared.legs.MonthLeg.{MonthLeg}
 use Rattle.span_tables.specs.declared.sides.Side.{Side}
 use Rattle.span_tables.specs.declared.sides.Side.TheVariants as side
-use Rattle.span_tables.specs.declared.tier_slots.TierMonths.{TierMonths}
 
 -- each month from the first to the last is marked
 abbrev pub HasMonths : ℕ → ℕ → ℕ → Type 0
@@ -24,13 +21,9 @@ abbrev pub IsOfSide : ℕ → Side → List MonthLeg → Type 0
 IsOfSide word s legs = (word ≡ 0) ⊎ HasLegOn word s legs
 
 -- the words belong to the legs on side A and on side B
-pub record AreOfTiers (months : TierMonths) (legs : List MonthLeg) : Type 0 where
-  pub on_a : IsOfSide months.a side.A legs
-  pub on_b : IsOfSide months.b side.B legs
-
--- there are as many words as spreads, and the words at each index belong to the legs of the spread at that index
-abbrev pub AreMonthsOf : List TierMonths → List IntraSpread → Type 0
-AreMonthsOf months spreads = AllZip (λ m s. AreOfTiers m s.legs) months spreads
+pub record AreOfTiers (a b : ℕ) (legs : List MonthLeg) : Type 0 where
+  pub on_a : IsOfSide a side.A legs
+  pub on_b : IsOfSide b side.B legs
 
 -- there are no months, or one of them is marked
 abbrev pub may_have : ℕ → ℕ → Bool

@@ -1,9 +1,7 @@
 -- How months gather their units, and how their units are used in order.
 use Rattle.std.specs.Prelude.{ℕ, ◌-◌, ◌==◌, min, nat_lt, if◌then◌else◌, List, [], ◌∷◌, ℤ, ◌+ℤ◌}
-use Rattle.span_tables.specs.declared.legs.MonthLeg.{MonthLeg}
 use Rattle.span_tables.specs.Sides.{part_on, less_used}
 use Rattle.span_tables.specs.declared.sides.MarketSide.{MarketSide}
-use Rattle.spread_stage.specs.Spreads.{is_in_tier}
 use Rattle.spread_stage.specs.declared.months.MonthUnits.{MonthUnits}
 
 -- the months with units added to one month, which is inserted in order if it is missing
@@ -32,14 +30,3 @@ used_in_turn on needed [] = []
 used_in_turn on needed (m ∷ ms) =
     record { month = m.month; units = less_used on m.units (min (part_on on m.units) needed) }
     ∷ used_in_turn on (needed - min (part_on on m.units) needed) ms
-
--- what a month has on a side of the market if it is in a leg's tier, and 0 if it is not
-unfoldable pub part_in_tier : MarketSide → MonthLeg → MonthUnits → ℕ
-part_in_tier on leg m = if is_in_tier leg m then part_on on m.units else 0
-
--- the months after a leg used what it needs of the months of its tier, in the order of the months
-abbrev pub leg_in_turn : MarketSide → MonthLeg → ℕ → List MonthUnits → List MonthUnits
-leg_in_turn on leg needed [] = []
-leg_in_turn on leg needed (m ∷ ms) =
-    record { month = m.month; units = less_used on m.units (min (part_in_tier on leg m) needed) }
-    ∷ leg_in_turn on leg (needed - min (part_in_tier on leg m) needed) ms

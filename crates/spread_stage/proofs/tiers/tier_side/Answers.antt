@@ -1,19 +1,7 @@
 use Rattle.std.proofs.Common.{◌∙◌, arith}
 use Rattle.spread_stage.proofs.PlaceLemmas.{side_at}
 use Rattle.spread_stage.proofs.SizeLemmas.{tier_side-le}
-use Rattle.spread_stage.proofs.UseLaws.{side_by_parts}
 use Rattle.spread_stage.proofs.tiers.tier_side.Goals as goal
-
-pub side_of_few-requires : goal.side_of_few-requires
-side_of_few-requires c =
-    let same = side_by_parts c.args.on c.args.leg.now c.args.rests.now in
-    let less = tier_side-le c.args.on c.args.leg.now c.args.rests.now in
-    let small = c.requires.small in
-    omega (arith, same, less, small)
-
-pub returns-then-rests-le-FEW_MONTHS-clause-side : goal.returns-then-rests-le-FEW_MONTHS-clause-side
-returns-then-rests-le-FEW_MONTHS-clause-side c =
-    c.side_of_few.ensures ∙ side_by_parts c.args.on c.args.leg.now c.args.rests.now
 
 pub sum_on-requires : goal.sum_on-requires
 sum_on-requires c =

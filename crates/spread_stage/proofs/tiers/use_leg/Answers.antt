@@ -1,7 +1,4 @@
-use Rattle.std.proofs.Common.{◌≡◌, ◌++◌, ℕ, ap, ◌∙◌, arith, subst, sym, take, List}
-use Rattle.span_tables.specs.declared.legs.MonthLeg.{MonthLeg}
-use Rattle.span_tables.specs.declared.sides.MarketSide.{MarketSide}
-use Rattle.spread_stage.specs.declared.tier_places.TierPlaces.{TierPlaces}
+use Rattle.std.proofs.Common.{◌++◌, ap, ◌∙◌, arith, subst, sym, take, List}
 use Rattle.spread_stage.specs.Months.{Shrinks}
 use Rattle.spread_stage.specs.Spreads.{rests_after_leg}
 use Rattle.spread_stage.specs.near.Places.{ArePlaces}
@@ -25,19 +22,11 @@ returns-clause-rests c =
     ++ (xs ++ back c.args.leg.now c.args.rests.now at.result.0 at.result.1 at.ensures.at)) c.use_months.ensures
     ∙ used_at c.args.leg.now c.args.rests.now _ _ at.ensures.at c.args.on c.args.needed c.requires.rise
 
--- places stay valid after a leg's use
-stay : (places : TierPlaces) (on : MarketSide) (needed : ℕ) (leg : MonthLeg) (rests later : List MonthUnits)
-    → later ≡ rests_after_leg on needed rests leg → ArePlaces places rests → ArePlaces places later
-stay places on needed leg rests later same are =
-    let after = rests_after_leg on needed rests leg in
-    let shrinks : Shrinks rests after = leg_shrinks on needed rests leg rests (shrinks_none rests) in
-    subst (ArePlaces places) (sym same) (places_stay places rests after shrinks are)
-
-pub returns-then-rests-le-FEW_MONTHS-clause-places : goal.returns-then-rests-le-FEW_MONTHS-clause-places
-returns-then-rests-le-FEW_MONTHS-clause-places c =
-    stay c.args.places.now c.args.on c.args.needed c.args.leg.now c.args.rests.now _ c.use_few.ensures c.requires.places
-
 pub returns-clause-places : goal.returns-clause-places
 returns-clause-places c =
-    stay c.find-start.new.self c.args.on c.args.needed c.args.leg.now c.args.rests.now _ (returns-clause-rests c)
-    c.find-start.ensures.places
+    let rests = c.args.rests.now in
+    let later = rests_after_leg c.args.on c.args.needed rests c.args.leg.now in
+    let shrinks : Shrinks rests later =
+    leg_shrinks c.args.on c.args.needed rests c.args.leg.now rests (shrinks_none rests) in
+    subst (ArePlaces c.find-start.new.self) (sym (returns-clause-rests c))
+    (places_stay c.find-start.new.self rests later shrinks c.find-start.ensures.places)

@@ -28,7 +28,6 @@ invariant_of-result c =
     let numbers = rw (c.as_slice-commodities.ensures.value, c.deref.ensures.value) at c.in_ok-commodity_numbers.ensures in
     let intras = rw (c.as_slice-commodities.ensures.value, c.as_slice-tiers.ensures.value, c.as_slice-spreads.ensures.value) at
     c.in_ok-intras.ensures in
-    let months = rw c.deref-2.ensures.value at c.in_ok-intra_months.ensures in
     let spots = rw (c.as_slice-commodities.ensures.value, c.as_slice-spots.ensures.value) at c.in_ok-spot_months.ensures in
-    let inters = rw (c.as_slice-commodities.ensures.value, c.deref-3.ensures.value) at c.in_ok-inters.ensures in
-    rw c.in_ok-contracts.ensures.ok (are_tables _ c.requires _ _ _ _ _ numbers intras months spots inters)
+    let inters = rw (c.as_slice-commodities.ensures.value, c.deref-2.ensures.value) at c.in_ok-inters.ensures in
+    rw c.in_ok-contracts.ensures.ok (are_tables _ c.requires _ _ _ _ numbers intras spots inters)
