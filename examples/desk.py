@@ -5,48 +5,36 @@ Finds the trade of one contract that frees the most margin of an account, and bo
 span_margin: a session that stays open, many orders that are evaluated at once, a fill, and errors. It changes no file.
 """
 import sys
-from typing import List, NamedTuple
+from typing import List, Tuple
 
 import span_margin as span
 
-DIGITS = 2  # decimals of an amount in dollars: 100 cents are a dollar
 SHOWN = 5  # how many trades are printed
 
 
-class Trade(NamedTuple):
-    """A contract that is bought (1) or sold (-1), and the change of the margin."""
-
-    change: span.Amount
-    contract: str
-    quantity: int
-
-
-def contracts_of(params: str) -> List[str]:
-    """The contracts of a parameter file."""
+def best_trades(desk: span.Session, account: str, params: str) -> List[Tuple[span.Amount, str, int]]:
+    """Evaluates buying (1) and selling (-1) one of each contract. Returns the change of the margin, the contract and the quantity of the
+    trades that free margin, the best first."""
     with open(params, encoding="utf-8") as file:
-        return [line.split(",")[1] for line in file if line.startswith("CONTRACT,")]
-
-
-def best_trades(desk: span.Session, account: str, contracts: List[str]) -> List[Trade]:
-    """Evaluates buying and selling one of each contract. Returns the trades that free margin, the best first."""
+        contracts = [line.split(",")[1] for line in file if line.startswith("CONTRACT,")]
     legs = [(contract, quantity) for contract in contracts for quantity in (1, -1)]
     results = desk.try_orders((account, {contract: quantity}) for contract, quantity in legs)
-    trades = [Trade(order.change, contract, quantity) for order, (contract, quantity) in zip(results, legs)]
-    return sorted((it for it in trades if it.change < 0), key=lambda it: it.change)
+    trades = [(order.change, *leg) for order, leg in zip(results, legs) if order.change < 0]
+    return sorted(trades, key=lambda trade: trade[0])
 
 
-def show(desk: span.Session, params: str, account: str) -> None:
+def show(desk: span.Session, account: str, params: str) -> None:
     """Prints the margin of an account, the best trades, and the margin after the first of them."""
     margin = desk.margin(account)
-    print(f"{account} owes {margin.total.major(DIGITS)} under {margin.set}")
+    print(f"{account} owes {margin.total.major()} under {margin.set}")
     for requirement in margin:
-        print(f"  {requirement.commodity}: {requirement.requirement.major(DIGITS)}")
-    best = best_trades(desk, account, contracts_of(params))
-    for trade in best[:SHOWN]:
-        print(f"{trade.quantity:+d} {trade.contract}: {trade.change.major(DIGITS)}")
-    if best:
-        after = desk.fill(account, {best[0].contract: best[0].quantity})
-        print(f"{account} owes {after.total.major(DIGITS)} with the first")
+        print(f"  {requirement.commodity}: {requirement.requirement.major()}")
+    best = best_trades(desk, account, params)
+    for change, contract, quantity in best[:SHOWN]:
+        print(f"{quantity:+d} {contract}: {change.major()}")
+    for _, contract, quantity in best[:1]:
+        after = desk.fill(account, {contract: quantity})
+        print(f"{account} owes {after.total.major()} with the first")
 
 
 def main() -> int:
@@ -56,7 +44,7 @@ def main() -> int:
     params, positions, account = sys.argv[1:]
     try:
         with span.Session(params, positions) as desk:
-            show(desk, params, account)
+            show(desk, account, params)
     except span.SpanError as error:
         print(f"desk.py: {error}", file=sys.stderr)
         return 1

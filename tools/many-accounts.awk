@@ -1,10 +1,9 @@
 # usage: awk -v accounts=N -v params=FILE -v positions=FILE [-v version=2] -f many-accounts.awk
 #
-# Writes a parameter set of realistic size, and the positions of N accounts, at most 1000002. span accepts both if it accepts so many
-# accounts. The set has 64 commodities with 24 contracts, 6 tiers, 12 spreads and 2 spot months each, and 64 spreads between commodities.
-# An account has 8 to 20 records. One account in three has some of its records after records of later accounts, and one in a thousand has
-# some at the very end of the file. The names of accounts have different lengths, some begin with another name, and they are not sorted.
-# The same arguments give the same files under every awk, since `rand` is not used.
+# Writes a parameter set of realistic size, and the positions of N accounts, at most 1000002. The set has 64 commodities with 24 contracts,
+# 6 tiers, 12 spreads and 2 spot months each, and 64 spreads between commodities. An account has 8 to 20 records. One account in three has
+# some of its records after records of later accounts, and one in a thousand has some at the very end of the file. Names of accounts have
+# different lengths, some begin with another name, and they are not sorted. The same arguments give the same files under every awk.
 
 # A pseudo-random number from low to high.
 function pick(low, high) {

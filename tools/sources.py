@@ -1,7 +1,8 @@
 """Shared by the tools: reads pages, crates.txt, and the items of files of definitions (.antt) and of files of code (.rt)."""
+import itertools
 import os
 import re
-import sys
+from dataclasses import dataclass
 
 NEAR = "near"
 
@@ -14,22 +15,6 @@ def text_of(path):
 def to_root():
     """Changes to the directory of the repository. All paths are relative to it."""
     os.chdir(os.path.join(os.path.dirname(os.path.abspath(__file__)), ".."))
-
-
-def write_or_check(path, text, tool, words):
-    """Writes a page that a tool makes, or with --check says whether the page is up to date. Returns the exit status."""
-    if words not in ([], ["--check"]):
-        print(f"usage: {tool} [--check]", file=sys.stderr)
-        return 2
-    if not words:
-        with open(path, "w", encoding="utf-8") as file:
-            file.write(text)
-        return 0
-    same = os.path.isfile(path) and text_of(path) == text
-    if not same:
-        print(f"{path} is not up to date: call {tool}, and commit the page")
-    print("1 passed, 0 failed" if same else "0 passed, 1 failed")
-    return 0 if same else 1
 
 
 def prose_of(text):
@@ -48,26 +33,9 @@ def headings_of(text):
     return found
 
 
-def crates(in_file_order=False):
-    """The crates of crates.txt, each after the crates that it uses: name, comment above it, and names of the crates that it uses."""
-    found, comment, order = {}, "", []
-    for line in text_of("crates.txt").splitlines():
-        head, colon, uses = line.partition("#")[0].partition(":")
-        if line.startswith("#"):
-            comment = line.lstrip("# ").strip()
-        elif colon:
-            found[head.split()[0]] = (comment, uses.split())
-
-    def visit(name):
-        if name in found and name not in order:
-            for used in found[name][1]:
-                visit(used)
-            order.append(name)
-
-    for name in found:
-        visit(name)
-    order = list(found) if in_file_order else order
-    return [(name, *found[name]) for name in order]
+def crates():
+    """The crates of crates.txt, each after the crates that it uses, with the names of the crates that it uses."""
+    return {name: uses.split() for name, uses in re.findall(r"^(\w+):(.*)$", text_of("crates.txt"), re.M)}
 
 
 def files_of(directory, ending):
@@ -79,203 +47,159 @@ def files_of(directory, ending):
     return sorted(found)
 
 
+@dataclass
+class Item:
+    """A definition, or a type or constant of the code, and the text whose names count. If a type has a Model, contracts see the Model's
+    Value, and neither the fields nor the invariant. `at`, `kind`, `public`, `doc` and `text` describe an item of the code."""
+
+    path: str
+    name: str
+    words: str
+    is_model: bool = False
+    at: int = 0
+    kind: str = ""
+    public: bool = False
+    doc: list = ()
+    text: str = ""
+
+
 # --- Files of definitions ---
-
-
-def comment_free(text):
-    """The text of a file of definitions without its comments."""
-    return re.sub(r"(?m)(^|\s)--.*$", r"\1", text)
-
-
-class Definition:
-    """An item of a file: its name, how many lines it has with the comment above it, and its text without comments."""
-
-    def __init__(self, path, name, lines, words):
-        self.path, self.name, self.lines, self.words = path, name, lines, words
-
-    def __repr__(self):
-        return f"{self.path}: {self.name}"
-
 
 USE = re.compile(r"^\s*(pub\s+)?(?:ghost\s+)?use\s+(Rattle\.[\w.]+?)(?:\.\{([^}]*)\}|\s+as\s+(\w+))?\s*;?\s*$", re.M)
 HEAD = re.compile(r"^( *)(?:(?:abbrev|unfoldable|pub)\s+)*(?:(record|data)\s+)?([A-Za-z_][\w']*)")
 DECLARES = re.compile(r"^ *(?:abbrev|unfoldable|pub)\b|^ *[A-Za-z_][\w']*(?:\s+\{[^}]*\})?\s+:\s")
 
 
-def imports_of(text):
-    """What a text imports: the module of each name and its name there, the module of each alias, and what `pub use` exports again."""
-    names, aliases, handed_on = {}, {}, []
-    for match in USE.finditer(text):
-        handed, module, listed, alias = match.groups()
-        if listed is None:
-            aliases[alias or module.split(".")[-1]] = module
+class Imports:
+    """What a file imports: the module of each name and its name there, the module of each alias, and what `pub use` exports again."""
+
+    def __init__(self, text):
+        self.names, self.aliases, self.handed_on = {}, {}, []
+        for handed, module, listed, alias in USE.findall(text):
+            found = [item.split() for item in listed.split(",") if item.strip()]
+            self.names.update({words[-1]: (module, words[0]) for words in found})
+            if not found:
+                self.aliases[alias or module.split(".")[-1]] = module
             if handed:
-                handed_on.append((module, None))
-            continue
-        for item in re.split(r",", listed):
-            words = item.split()
-            if words:
-                names[words[-1]] = (module, words[0])
-                if handed:
-                    handed_on.append((module, words[0]))
-    return names, aliases, handed_on
+                self.handed_on.extend((module, words[0]) for words in found or [[None]])
 
 
-class DefinitionFile:
+class DefinitionFile(Imports):
     """A file of definitions: its items by name. `of_data` has the type of each constructor and field of a `data`."""
 
     def __init__(self, path):
-        self.path = path
-        text = text_of(path)
-        self.names, self.aliases, self.handed_on = imports_of(text)
-        self.items, self.of_data = {}, {}
-        self._read(text.splitlines())
-
-    def _read(self, lines):
-        module, above, at = [], [], 0
+        lines = text_of(path).splitlines()
+        super().__init__("\n".join(lines))
+        self.path, self.items, self.of_data = path, {}, {}
+        module, at = [], 0
         while at < len(lines):
-            line = lines[at]
-            if re.match(r"module\b", line):
-                module, above = [line], []
-            elif re.match(r" *--", line):
-                above.append(line)
-            elif re.match(r"\s*$", line) or line.startswith(("use ", "pub use ", "pub mod ")):
-                above = []
-            else:
-                at = self._item(lines, at, above, module)
-                above = []
-                continue
-            at += 1
+            end = at + 1
+            if lines[at].startswith("module"):
+                module = [lines[at]]
+            elif not re.match(r" *--|\s*$|use |pub use |pub mod ", lines[at]):
+                end = self._end_of_item(lines, at)
+                self._add(lines[at:end], module)
+            at = end
 
-    def _item(self, lines, at, above, module):
-        """Reads the item that begins at a line, with its clauses. Returns the line at which the next item begins."""
-        indent, kind, name = HEAD.match(lines[at]).groups()
-        end = at + 1
+    def _end_of_item(self, lines, at):
+        """The line after the item that begins at a line, with its clauses."""
+        deeper, end = HEAD.match(lines[at]).group(1) + " ", at + 1
         while end < len(lines) and not re.match(r"\s*$|module\b|use\b", lines[end]):
-            deeper = lines[end].startswith(indent + " ")
-            if not deeper and (DECLARES.match(lines[end]) or re.match(r" *--", lines[end])):
+            if not lines[end].startswith(deeper) and (DECLARES.match(lines[end]) or re.match(r" *--", lines[end])):
                 break
             end += 1
-        body = lines[at:end]
-        item = Definition(self.path, name, len(body) + len(above), comment_free("\n".join(module + body)))
-        self.items[name] = item
-        if kind == "data":
-            for line in body[1:]:
-                made = re.match(r"\s+(\w+)\s*:", line)
-                if made:
-                    self.of_data[made.group(1)] = name
         return end
+
+    def _add(self, body, module):
+        _, kind, name = HEAD.match(body[0]).groups()
+        words = re.sub(r"(?m)(^|\s)--.*$", r"\1", "\n".join(module + body))
+        self.items[name] = Item(self.path, name, words)
+        if kind == "data":
+            self.of_data.update({made: name for made in re.findall(r"(?m)^\s+(\w+)\s*:", "\n".join(body[1:]))})
 
 
 # --- Files of code ---
 
 RUST_USE = re.compile(r"^(?:pub(?:\(\w+\))? )?use ((?:[^;{]|\{[^;]*\})*);", re.M)
-ITEM = re.compile(r"^(?:pub(?:\(\w+\))? )?(?:const )?(struct|enum|const|static|trait|type|fn) (\w+)", re.M)
-CLAUSE = re.compile(r"\b(requires|ensures)(?:\s+(\w+))?\s*$")
+ITEM = re.compile(r"^(?:pub(?:\(\w+\))? )?(?:const )?(struct|enum|const|static|type) (\w+)", re.M)
+OWNER = re.compile(r"^(?:unsafe )?(?:impl\b|(?:pub(?:\(\w+\))? )?trait )[^{]*", re.M)
+FUNCTION = re.compile(r"^((?:    )?)((?:pub(?:\(\w+\))? )?)(?:const |unsafe )*fn (\w+)", re.M)
+CLAUSE = re.compile(r"\b(?:requires|ensures)(?:\s+\w+)?\s*$")
 
 
 def rust_paths(text):
     """The paths in the tree of a `use`, each with the name that it declares."""
-    text = re.sub(r"\s+", " ", text.strip())
-    match = re.fullmatch(r"(.*?)\{(.*)\}", text)
-    if not match:
-        path, _, alias = text.partition(" as ")
-        return [(path.split("::"), alias or path.split("::")[-1])]
-    found, depth, part = [], 0, ""
-    for letter in match.group(2) + ",":
-        depth += {"{": 1, "}": -1}.get(letter, 0)
-        if letter == "," and depth == 0:
-            if part.strip():
-                found.extend(rust_paths(match.group(1).replace(" ", "") + part.strip()))
-            part = ""
+    above, last = [""], ""
+    for part in re.findall(r"[\w:*]+(?: as \w+)?|[{}]", " ".join(text.split())):
+        if part == "{":
+            above.append(above[-1] + last)
+        elif part == "}":
+            above.pop()
+        elif part.endswith("::"):
+            last = part
         else:
-            part += letter
-    return found
-
-
-def end_of_header(text, start):
-    """Returns where the body of a function begins (or its header ends), its clauses, and where the first clause begins. A clause is its
-    keyword, its name and its text."""
-    depth, at, clauses, opened, head = 0, start, [], None, None
-    while at < len(text):
-        letter = text[at]
-        if letter == '"':
-            at = text.index('"', at + 1)
-        elif letter in "([{":
-            if letter == "{" and depth == 0:
-                match = CLAUSE.search(text, start, at)
-                if not match:
-                    return at, clauses, head if head is not None else at
-                opened = (match.group(1), match.group(2), at)
-                head = match.start() if head is None else head
-            depth += 1
-        elif letter in ")]}":
-            depth -= 1
-            if letter == "}" and depth == 0 and opened:
-                clauses.append((opened[0], opened[1], text[opened[2] + 1 : at].strip()))
-                opened = None
-        elif letter == ";" and depth == 0:
-            return at, clauses, head if head is not None else at
-        at += 1
-    return at, clauses, head if head is not None else at
+            path, _, alias = part.partition(" as ")
+            yield (above[-1] + path).split("::"), alias or path.split("::")[-1]
 
 
 def closing(text, at):
     """The index of the bracket that closes the bracket at an index."""
     depth = 0
-    while at < len(text):
-        if text[at] == '"':
-            at = text.index('"', at + 1)
-        depth += {"{": 1, "(": 1, "[": 1, "}": -1, ")": -1, "]": -1}.get(text[at], 0)
-        if depth == 0 and text[at] in "})]":
-            return at
-        at += 1
-    return at
+    for match in re.compile(r'"[^"]*"|[][(){}]').finditer(text, at):
+        depth += {"{": 1, "(": 1, "[": 1, "}": -1, ")": -1, "]": -1}.get(match.group(), 0)
+        if depth == 0:
+            return match.start()
 
 
-class Function:
-    """A function. `header` is its signature with its clauses."""
+def header_of(text, start):
+    """Returns where the header of a function ends, where its first clause begins, and the texts of its clauses."""
+    at, head, clauses = start, None, []
+    while True:
+        opened = re.compile(r"[([{;]").search(text, at).start()
+        clause = CLAUSE.search(text, at, opened) if text[opened] == "{" else None
+        if text[opened] == ";" or (text[opened] == "{" and not clause):
+            return opened, opened if head is None else head, clauses
+        at = closing(text, opened) + 1
+        if clause:
+            head = clause.start() if head is None else head
+            clauses.append(text[opened + 1 : at - 1].strip())
 
-    def __init__(self, at, name, doc, signature, header, clauses, public, owner):
-        self.at, self.name, self.doc, self.clauses = at, name, doc, clauses
-        self.signature, self.header = signature, header
-        self.public, self.owner = public, owner
 
-
-def above(text, start):
-    """The lines of comments and attributes directly above an index."""
+def doc_above(text, start):
+    """The lines of the comment for users (`///`) directly above an index."""
     lines = text[:start].split("\n")[:-1]
-    first = len(lines)
-    while first and re.match(r"\s*(///|#\[|//[^/!])", lines[first - 1]):
-        first -= 1
-    return lines[first:]
+    comments = [*itertools.takewhile(re.compile(r"\s*(///|#\[|//[^/!])").match, reversed(lines))]
+    return [re.sub(r"^\s*/// ?", "", line) for line in reversed(comments) if re.match(r"\s*///", line)]
 
 
-def doc_of(lines):
-    """The lines of the comment for users (`///`) among such lines."""
-    return [re.sub(r"^\s*/// ?", "", line) for line in lines if re.match(r"\s*///", line)]
+@dataclass
+class Function:
+    """A function. `header` is its signature with its clauses, and `owner` the first line of its impl block or trait."""
+
+    at: int
+    name: str
+    doc: list
+    signature: str
+    header: str
+    clauses: list
+    public: bool
+    owner: str
 
 
-class CodeFile:
+class CodeFile(Imports):
     """A file of code: its types and constants by name, its functions, and its imports."""
 
     def __init__(self, path, crate, module):
-        self.path, self.crate, self.module = path, crate, module
-        self.text = text_of(path)
-        self.names, self.aliases, self.handed_on = imports_of(self.text)
-        self.uses = {}
-        for match in RUST_USE.finditer(self.text):
-            for where, name in rust_paths(match.group(1)):
-                self.uses[name] = where
+        self.path, self.crate, self.module, self.text = path, crate, module, text_of(path)
+        super().__init__(self.text)
+        self.uses = {name: where for tree in RUST_USE.findall(self.text) for where, name in rust_paths(tree)}
         self.head = [re.sub(r"^//! ?", "", line) for line in self.text.splitlines() if line.startswith("//!")]
         self.models = {}
         for match in re.finditer(r"^impl(?:<[^\n]*?>)? Model for (\w+)", self.text, re.M):
             opened = self.text.index("{", match.end())
-            self.models[match.group(1)] = self.text[opened : closing(self.text, opened) + 1]
-        self.items = {}
-        for match in ITEM.finditer(self.text):
-            if match.group(1) in ("struct", "enum", "const", "static", "type"):
-                self._item(match)
+            model = self.text[opened : closing(self.text, opened) + 1]
+            self.models[match.group(1)] = re.search(r"ghost Value = (\{.*?\});", model, re.S).group(1)
+        self.items = {match.group(2): self._item(match) for match in ITEM.finditer(self.text)}
 
     def _item(self, match):
         kind, name = match.groups()
@@ -286,137 +210,101 @@ class CodeFile:
             end = closing(self.text, end)
         elif self.text[end] != ";":
             end = self.text.index(";", end)
-        body = self.text[match.start() : end + 1]
-        comments = above(self.text, match.start())
-        lines = len(body.splitlines()) + len(comments)
-        # If a type has a Model, clauses see the Model's Value, and neither the fields nor the invariant.
-        if name in self.models:
-            value = re.search(r"ghost Value = (\{.*?\});", self.models[name], re.S)
-            lines = len(comments) + 1 + len(value.group(1).splitlines())
-            body = None
-        words = body if body is not None else value.group(1)
-        words = re.sub(r"//.*", "", words)
-        words = re.sub(r"#\[[^\n]*\]", "", words)
-        self.items[name] = Definition(self.path, name, lines, words)
-        self.items[name].is_model = body is None
-        self.items[name].kind = kind
-        self.items[name].doc = doc_of(comments)
-        self.items[name].public = match.group(0).startswith("pub ")
-        self.items[name].at = match.start()
-        self.items[name].text = self.text[match.start() : end + 1]
+        text, value = self.text[match.start() : end + 1], self.models.get(name)
+        words, doc = re.sub(r"//.*|#\[[^\n]*\]", "", value or text), doc_above(self.text, match.start())
+        return Item(self.path, name, words, bool(value), match.start(), kind, text.startswith("pub "), doc, text)
 
     def traits(self):
         """The public traits of the file: index, name, first line, comment."""
         for match in re.finditer(r"^pub trait (\w+)[^{]*", self.text, re.M):
-            yield match.start(), match.group(1), match.group(0).strip(), doc_of(above(self.text, match.start()))
+            yield match.start(), match.group(1), match.group(0).strip(), doc_above(self.text, match.start())
 
     def functions(self):
         """The functions of the file in their order, also of impl blocks and traits, but not functions inside of functions."""
         owners = []
-        for match in re.finditer(r"^(?:unsafe )?(?:impl\b|(?:pub(?:\(\w+\))? )?trait )[^{]*", self.text, re.M):
+        for match in OWNER.finditer(self.text):
             opened = self.text.index("{", match.end() - 1)
             owners.append((opened, closing(self.text, opened), " ".join(match.group(0).split())))
-        for match in re.finditer(r"^((?:    )?)((?:pub(?:\(\w+\))? )?)(?:const |unsafe )*fn (\w+)", self.text, re.M):
-            owner = next((it for first, last, it in owners if first < match.start() < last), None)
-            if match.group(1) and not owner:
+        for match in FUNCTION.finditer(self.text):
+            indent, public, name = match.groups()
+            owner = next((it for first, last, it in owners if first < match.start() < last), "")
+            if indent and not owner:
                 continue
-            end, clauses, head = end_of_header(self.text, match.end())
-            begin, indent = match.start() + len(match.group(1)), match.group(1)
-            signature, header = (
-                re.sub(rf"(?m)^{indent}", "", self.text[begin:last].rstrip()) for last in (head, end)
-            )
+            end, head, clauses = header_of(self.text, match.end())
+            begin = match.start() + len(indent)
+            signature, header = (re.sub(rf"(?m)^{indent}", "", self.text[begin:last].rstrip()) for last in (head, end))
             # A method in the impl of a trait counts as public if it has clauses of its own in place of the clauses of the trait.
-            public = match.group(2) == "pub " or re.match(r"pub trait |impl.* for " if clauses else "pub trait ", owner or "")
-            doc = doc_of(above(self.text, match.start()))
-            yield Function(begin, match.group(3), doc, signature, header, clauses, public, owner)
+            is_public = public == "pub " or re.match(r"pub trait |impl.* for " if clauses else "pub trait ", owner)
+            yield Function(begin, name, doc_above(self.text, match.start()), signature, header, clauses, bool(is_public), owner)
 
 
 class Sources:
     """The files of the crates. Each is read once."""
 
     def __init__(self):
-        self.crates = {name: uses for name, _, uses in crates()}
-        self.rank = {name: at for at, name in enumerate(self.crates)}
-        self.read = {}
+        self.crates, self.read = list(crates()), {}
 
-    def definitions(self, path):
+    def file(self, path, kind, *more):
+        """A file, or None if there is none with this path."""
         if path not in self.read:
-            self.read[path] = DefinitionFile(path) if os.path.isfile(path) else None
+            self.read[path] = kind(path, *more) if os.path.isfile(path) else None
         return self.read[path]
 
     def code(self, crate, module):
         """The file of a module of a crate, or None if there is no such file."""
-        base = "/".join([f"crates/{crate}/src", *module])
-        roots = [f"{base}/lib.rt", f"{base}/main.rt"] if not module else [f"{base}.rt", f"{base}/mod.rt"]
-        for path in roots:
-            if path not in self.read:
-                self.read[path] = CodeFile(path, crate, module) if os.path.isfile(path) else None
-            if self.read[path]:
-                return self.read[path]
-        return None
+        ends = [[*module, "lib"], [*module, "main"]] if not module else [module, [*module, "mod"]]
+        found = (self.file("/".join([f"crates/{crate}/src", *end]) + ".rt", CodeFile, crate, module) for end in ends)
+        return next(filter(None, found), None)
+
+    def definitions(self, crate, where):
+        return self.file("/".join([f"crates/{crate}/specs", *where]) + ".antt", DefinitionFile)
 
     def is_public(self, crate, module):
         """Whether a module can be named from outside of its crate."""
-        for depth in range(len(module)):
-            above_it = self.code(crate, module[:depth])
-            if not above_it or not re.search(rf"(?m)^pub mod {module[depth]};", above_it.text):
-                return False
-        return True
-
-    # --- Names of definitions ---
+        above = [self.code(crate, module[:depth]) for depth in range(len(module))]
+        return all(file and re.search(rf"(?m)^pub mod {name};", file.text) for file, name in zip(above, module))
 
     def definition(self, module, name, seen=()):
         """The item that a name of a module of definitions stands for, or None if it belongs to the toolchain."""
-        parts = module.split(".")
-        if len(parts) < 3 or parts[1] not in self.crates or (module, name) in seen:
+        _, crate, *where = module.split(".")
+        where = where[1:]
+        if crate not in self.crates or (module, name) in seen:
             return None
-        crate, where = parts[1], parts[3:]
         found = self.declared(crate, where[1:], name) if where[:1] == ["declared"] else None
         if found:
             return found
-        file = self.definitions(f"crates/{crate}/specs/" + "/".join(where) + ".antt")
+        file, seen = self.definitions(crate, where), (*seen, (module, name))
         if not file:
             # An index exports a module of another crate.
-            index = self.definitions("/".join([f"crates/{crate}/specs", *(where[:-1] or ["Lib"])]) + ".antt")
-            index = index or self.definitions(f"crates/{crate}/specs/Lib.antt")
-            for other, listed in index.handed_on if index else ():
-                if listed is None and other.split(".")[-1] == where[-1]:
-                    return self.definition(other, name, (*seen, (module, name)))
-            return None
+            index = self.definitions(crate, where[:-1] or ["Lib"]) or self.definitions(crate, ["Lib"])
+            others = [other for other, listed in index.handed_on if listed is None and other.split(".")[-1] == where[-1]] if index else []
+            return self.definition(others[0], name, seen) if others else None
         name = file.of_data.get(name, name)
         if name in file.items:
             return file.items[name]
-        for other, listed in file.handed_on:
-            found = self.definition(other, name, (*seen, (module, name))) if listed in (name, None) else None
-            if found:
-                return found
-        return None
+        others = (self.definition(other, name, seen) for other, listed in file.handed_on if listed in (name, None))
+        return next(filter(None, others), None)
 
     def declared(self, crate, where, name):
         """The type or constant of the code that a name in `declared` stands for. For a variant or a field, its type."""
-        module = [it for it in where if it[0].islower()]
         owners = [it for it in where if it[0].isupper() and not it.startswith("The")]
-        file = self.code(crate, module)
+        file = self.code(crate, [it for it in where if it[0].islower()])
         return file.items.get(owners[0] if owners else name) if file else None
 
     def code_item(self, file, name, seen=()):
         """The type or constant that a name in a file of code stands for. None for a trait, and for what is built in or of the toolchain."""
         if name in file.items:
             return file.items[name]
-        where = file.uses.get(name)
-        if not where or (file.path, name) in seen:
+        crate, *parts = file.uses.get(name, [""])
+        if (file.path, name) in seen:
             return None
-        parts = list(where)
-        if parts[0] in ("self", "super"):
+        if crate in ("self", "super"):
             base = list(file.module)
-            while parts[0] in ("self", "super"):
-                base = base[:-1] if parts.pop(0) == "super" else base
+            while crate in ("self", "super"):
+                base = base[:-1] if crate == "super" else base
+                crate, *parts = parts
+            crate, parts = file.crate, [*base, crate, *parts]
+        elif crate == "crate":
             crate = file.crate
-            parts = base + parts
-        else:
-            crate = file.crate if parts[0] == "crate" else parts[0]
-            parts = parts[1:]
-        if crate not in self.crates or not parts:
-            return None
-        other = self.code(crate, parts[:-1])
+        other = self.code(crate, parts[:-1]) if crate in self.crates and parts else None
         return self.code_item(other, parts[-1], (*seen, (file.path, name))) if other else None

@@ -29,43 +29,22 @@ static int is_refused(void)
 {
     if (refused == 0 || atomic_fetch_add(&growths, 1) + 1 != refused)
         return 0;
-    if (mark) {
-        int made = open(mark, O_CREAT | O_WRONLY, 0600);
-        if (made >= 0)
-            close(made);
-    }
+    int made = mark ? open(mark, O_CREAT | O_WRONLY, 0600) : -1;
+    if (made >= 0)
+        close(made);
     errno = ENOMEM;
     return 1;
 }
 
-void *malloc(size_t size)
-{
-    return is_refused() ? NULL : __libc_malloc(size);
-}
-
-void *calloc(size_t count, size_t size)
-{
-    return is_refused() ? NULL : __libc_calloc(count, size);
-}
-
-void *realloc(void *block, size_t size)
-{
-    return is_refused() ? NULL : __libc_realloc(block, size);
-}
-
-void *memalign(size_t alignment, size_t size)
-{
-    return is_refused() ? NULL : __libc_memalign(alignment, size);
-}
-
-void *aligned_alloc(size_t alignment, size_t size)
-{
-    return is_refused() ? NULL : __libc_memalign(alignment, size);
-}
+void *malloc(size_t size) { return is_refused() ? NULL : __libc_malloc(size); }
+void *calloc(size_t count, size_t size) { return is_refused() ? NULL : __libc_calloc(count, size); }
+void *realloc(void *block, size_t size) { return is_refused() ? NULL : __libc_realloc(block, size); }
+void *memalign(size_t alignment, size_t size) { return is_refused() ? NULL : __libc_memalign(alignment, size); }
+void *aligned_alloc(size_t alignment, size_t size) { return memalign(alignment, size); }
 
 int posix_memalign(void **block, size_t alignment, size_t size)
 {
-    void *made = is_refused() ? NULL : __libc_memalign(alignment, size);
+    void *made = memalign(alignment, size);
     if (made == NULL)
         return ENOMEM;
     *block = made;

@@ -1,4 +1,5 @@
 """Shared code of the tests of the package: the example files, directories, and programs that stand in for span."""
+import dataclasses
 import os
 import stat
 import tempfile
@@ -8,7 +9,6 @@ from typing import Any, List, Type, TypeVar, Union
 from unittest import mock
 
 import span_margin as span
-from span_margin._lines import Line, cells_of, columns_of
 
 EXAMPLES = Path(__file__).resolve().parents[2] / "examples"
 PARAMS, NEXT, VALUE = EXAMPLES / "params.csv", EXAMPLES / "params-next.csv", EXAMPLES / "params-value.csv"
@@ -18,10 +18,12 @@ FAULTY_PARAMS, FAULTY_POSITIONS = EXAMPLES / "params-faults.csv", EXAMPLES / "po
 Error = TypeVar("Error", bound=BaseException)
 
 
-def line_of(word: str, make: Type[Line], line: Line) -> str:
-    """The line that span printed for an object, without the end."""
-    cells = [str(cell) for cell in cells_of(line, columns_of(make)) if cell is not None]
-    return ",".join((word, *cells))
+def line_of(word: str, make: Any, line: Any) -> str:
+    """The line that span printed for an object, without the end, from the fields of the class `make`."""
+    cells = [getattr(line, field.name) for field in dataclasses.fields(make)]
+    if make is span.Sums:
+        cells[-1:] = cells[-1]
+    return ",".join((word, *(str(cell) for cell in cells if cell is not None)))
 
 
 def statement_lines(statement: span.Statement) -> List[str]:
@@ -71,9 +73,28 @@ class Case(unittest.TestCase):
         self.use(SPAN=str(path), SPAN_REAL=os.environ["SPAN"])
         return path
 
+    def use_output(self, name: str, version: str = "1.3.0") -> bytes:
+        """Replaces span by a program that prints a file of the examples, and returns the content of the file."""
+        self.use_program(f"cat '{EXAMPLES}/{name}'", version)
+        return (EXAMPLES / name).read_bytes()
+
     def error(self, kind: Type[Error], call: Any, *arguments: Any, **named: Any) -> Error:
         """The error of exactly this class, which a call raises."""
         with self.assertRaises(kind) as caught:
             call(*arguments, **named)
         self.assertIs(type(caught.exception), kind)
         return caught.exception
+
+
+class SessionCase(Case):
+    """A test that opens sessions, which are closed after the test."""
+
+    def session(self, params: Any = PARAMS, positions: Any = POSITIONS, **named: Any) -> span.Session:
+        desk = span.Session(params, positions, **named)
+        self.addCleanup(desk.close)
+        return desk
+
+    def stand_in(self, script: str, **named: Any) -> span.Session:
+        """A session of a program that opens it and then runs a script."""
+        self.use_program(f"echo OK,D20251114,0,0,0,0,0,0; echo done,0; {script}")
+        return self.session(**named)

@@ -73,7 +73,7 @@ class Calls(Case):
 
     def test_no_account(self) -> None:
         statement = span.margin(PARAMS, b"")
-        self.assertEqual((statement.set, len(statement), statement.to_dicts(), statement.to_json()), (None, 0, [], "[]"))
+        self.assertEqual((statement.set, len(statement), statement.to_dicts(), statement.to_json()), ("D20251114", 0, [], "[]"))
 
     def test_option_values(self) -> None:
         account = span.margin(VALUE, POSITIONS)["RIVER-01"]
@@ -104,7 +104,8 @@ class Calls(Case):
         self.assertEqual(statement_lines(roll.today) + statement_lines(roll.next), lines_of(EXAMPLES / "statement-roll.csv"))
         same = span.roll(PARAMS, PARAMS, POSITIONS)
         self.assertEqual(same.today, same.next)
-        self.assertEqual((span.roll(PARAMS, NEXT, b"").today.set, len(span.roll(PARAMS, NEXT, b"").next)), (None, 0))
+        nothing = span.roll(PARAMS, NEXT, b"")
+        self.assertEqual([(statement.set, len(statement)) for statement in nothing], [("D20251114", 0), ("D20251117", 0)])
 
     def test_check(self) -> None:
         self.assertEqual(span.check(PARAMS), span.SetCounts("D20251114", 5, 48, 12, 16, 5, 5))

@@ -88,7 +88,8 @@ class Command(Case):
             self.assertEqual(command("csv", given=b"T,A,D1,1\n", stdout=full)[0::2], (6, "python -m span_margin: file: output\n"))
         reads, writes = os.pipe()
         os.close(reads)
-        self.assertEqual(command("csv", given=STATEMENT.read_bytes() * 100, stdout=writes)[0::2], (6, "python -m span_margin: file: output\n"))
+        done = command("csv", given=STATEMENT.read_bytes() * 100, stdout=writes)
+        self.assertEqual(done[0::2], (6, "python -m span_margin: file: output\n"))
         os.close(writes)
 
     def test_input_fails(self) -> None:

@@ -1,29 +1,28 @@
 """Sessions: every call against the commands, requests that are rejected, names that would be other requests, threads, and ends."""
+import copy
 import gc
 import os
+import pickle
 import random
+import re
 import shutil
 import signal
+import subprocess
 import threading
 import time
 import unittest.mock
 from pathlib import Path
-from typing import Any, Dict, List, Optional
+from typing import Any, Dict, List, Optional, Tuple
 
 import span_margin as span
-from shared import FAULTY_PARAMS, NEXT, ORDERS, PARAMS, POSITIONS, VALUE, Case, lines_of
+from shared import FAULTY_PARAMS, NEXT, ORDERS, PARAMS, POSITIONS, VALUE, SessionCase, lines_of
 
 MANY = 10000  # orders that one call evaluates
 CONTRACTS = ("CLZ5", "CLF6", "HOZ5", "ZCZ5", "RBH6")
 
 
-class SessionCase(Case):
-    """A test that opens sessions, which are closed after the test."""
-
-    def session(self, params: Any = PARAMS, positions: Any = POSITIONS, **named: Any) -> span.Session:
-        desk = span.Session(params, positions, **named)
-        self.addCleanup(desk.close)
-        return desk
+class Case(SessionCase):
+    """A test of sessions."""
 
     def refused(self, code: Optional[str], field: int, call: Any, *arguments: Any) -> span.RequestError:
         """The error of a call that is rejected for this fault."""
@@ -33,7 +32,7 @@ class SessionCase(Case):
         return error
 
 
-class Answers(SessionCase):
+class Answers(Case):
     def test_margin(self) -> None:
         statement = span.margin(PARAMS, POSITIONS)
         desk = self.session(workers=2)
@@ -100,7 +99,7 @@ class Answers(SessionCase):
         self.assertEqual(desk.margin(), span.margin(PARAMS, kept))
 
 
-class ManyOrders(SessionCase):
+class ManyOrders(Case):
     def orders(self, count: int) -> List[Any]:
         chance = random.Random(66)
         return [("RIVER-01", {chance.choice(CONTRACTS): chance.randint(-99, 99)}, f"ORDER-{number}") for number in range(count)]
@@ -109,11 +108,12 @@ class ManyOrders(SessionCase):
         desk, orders = self.session(), self.orders(MANY)
         tried = desk.try_orders(orders)
         rows = [(name, account, contract, quantity) for account, legs, name in orders for contract, quantity in legs.items()]
-        self.assertEqual(tried, list(span.whatif(PARAMS, POSITIONS, rows)))
+        self.assertEqual(tried, span.whatif(PARAMS, POSITIONS, rows))
+        self.assertEqual(tried["ORDER-7"], desk.try_order(*orders[7]))
 
     def test_few(self) -> None:
         desk = self.session()
-        self.assertEqual(desk.try_orders([]), [])
+        self.assertEqual((len(desk.try_orders([])), desk.try_orders([], return_errors=True)), (0, []))
         (one,) = desk.try_orders([("RIVER-01", {"CLZ5": -2})])
         self.assertEqual(one, desk.try_order("RIVER-01", {"CLZ5": -2}))
         self.assertEqual(len(desk.try_orders((it, {"CLZ5": 1}) for it in ("RIVER-01", "FLAT-07"))), 2)
@@ -125,42 +125,21 @@ class ManyOrders(SessionCase):
         orders.append(("RIVER-01", {"CLZ5": 10**7}))
         tried = desk.try_orders(orders, return_errors=True)
         self.assertEqual({at: it.code for at, it in enumerate(tried) if isinstance(it, span.RequestError)}, {50: "B1", 51: "X4", 202: "X6"})
-        self.assertEqual([it for it in tried if isinstance(it, span.TriedOrder)], desk.try_orders(self.orders(200)))
+        self.assertEqual([it for it in tried if isinstance(it, span.TriedOrder)], list(desk.try_orders(self.orders(200))))
         self.assertEqual(self.error(span.RequestError, desk.try_orders, orders).contract, "CLX5")
         self.assertEqual(desk.margin("RIVER-01").total, 1331287)
 
     def test_wrong_types(self) -> None:
         desk = self.session()
-        for orders in ([("RIVER-01", {"CLZ5": 1.0})], [("RIVER-01", {"CLZ5": "1"})], [("RIVER-01",)], [(1, {})], 5):
+        for orders in ([("RIVER-01", {"CLZ5": 1.0})], [("RIVER-01", {"CLZ5": "1"})], [("RIVER-01",)], [(1, {"CLZ5": 1})], 5):
             self.error(TypeError, desk.try_orders, orders)
         self.error(TypeError, desk.fill, "RIVER-01", {"CLZ5": 0.5})
         self.assertEqual(desk.try_order("RIVER-01", {"CLZ5": True}).account, "RIVER-01")
-
-    def test_interrupted(self) -> None:
-        desk, orders = self.session(), self.orders(MANY)
-
-        def interrupt(*_: Any) -> None:
-            raise KeyboardInterrupt
-
-        before = signal.signal(signal.SIGALRM, interrupt)
-        self.addCleanup(signal.signal, signal.SIGALRM, before)
-        signal.setitimer(signal.ITIMER_REAL, 0.05)
-        try:
-            with self.assertRaises(KeyboardInterrupt):
-                while True:
-                    desk.try_orders(orders)
-        finally:
-            signal.setitimer(signal.ITIMER_REAL, 0)
-        self.assertEqual(desk.margin(), span.margin(PARAMS, POSITIONS))
-
-    def test_closed_between(self) -> None:
-        desk = self.session()
-        desk._channel.send([f"TRY,A,B,CLZ5,{number}" for number in range(200000)])
-        desk.close()
-        self.error(span.SessionEnded, desk.margin)
+        for call in (lambda: desk.fill("RIVER-01", {}), lambda: desk.try_orders([("RIVER-01", {})]), lambda: desk.margin(timeout=-1)):
+            self.error(ValueError, call)
 
 
-class Refused(SessionCase):
+class Refused(Case):
     def test_faults(self) -> None:
         desk = self.session()
         before = desk.margin()
@@ -173,7 +152,6 @@ class Refused(SessionCase):
         self.assertEqual((error.order, error.account, error.contract), (None, "RIVER-01", "CLF6"))
         self.refused("X5", 4, desk.fill, "RIVER-01", {"CLZ5": 10**18})
         self.refused("B2", 3, desk.fill, "RIVER-01", {"CLZ5": 100000})
-        self.refused("X3", 0, desk.fill, "RIVER-01", {})
         self.refused("X3", 0, desk.try_order, "RIVER-01", {f"C{number}": 1 for number in range(65)})
         self.refused("X1", 0, desk.margin, "A" * 5000)
         self.assertEqual(desk.margin(), before)
@@ -186,7 +164,9 @@ class Refused(SessionCase):
     def test_hostile_names(self) -> None:
         desk = self.session()
         before = desk.positions()
-        names = "", "a", "A B", "Ä", "\ud800", "A\0", '"A"', "SEVENTEEN-LETTERS", "A,CLZ5,1", "A\n", "A\r", "A\nMARGIN", "A\r\nPOSITIONS", ","
+        names = (
+            "", "a", "A B", "Ä", "\ud800", "A\0", '"A"', "SEVENTEEN-LETTERS", "A,CLZ5,1", "A\n", "A\r", "A\nMARGIN", "A\r\nPOSITIONS", ",",
+        )
         for name in names:
             with self.subTest(ascii(name)):
                 self.refused("X4", 2, desk.margin, name)
@@ -207,7 +187,7 @@ class Refused(SessionCase):
         without = "".join(f"{line}\n" for line in lines_of(NEXT) if not line.startswith("CONTRACT,MCLF6,")).encode()
         error = self.error(span.PositionsError, desk.use_set, without)
         self.assertEqual((error.code, error.account, error.contract, error.record), ("B1", "RIVER-01", "MCLF6", None))
-        for name, reason in (("missing", "No such file or directory"), (".", "Is a directory"), ("a\nb", "No such file or directory")):
+        for name, reason in (("missing", "No such file or directory"), (".", "Is a directory")):
             self.assertEqual(self.error(span.FileError, desk.use_set, name).reason, reason)
         self.assertEqual((desk.set, desk.margin()), ("D20251114", span.margin(PARAMS, POSITIONS)))
 
@@ -233,7 +213,7 @@ class Refused(SessionCase):
         self.assertEqual(desk.use_set("set.csv").set, "D20251117")
 
 
-class Threads(SessionCase):
+class Threads(Case):
     def test_shared(self) -> None:
         desk = self.session()
         expected = {it: desk.try_order("RIVER-01", {it: 1}) for it in CONTRACTS}
@@ -243,7 +223,7 @@ class Threads(SessionCase):
             for turn in range(40):
                 if desk.try_order("RIVER-01", {contract: 1}) != expected[contract]:
                     wrong.append(contract)
-                if turn % 10 == 0 and desk.try_orders([("RIVER-01", {it: 1}) for it in CONTRACTS * 9]) != list(expected.values()) * 9:
+                if turn % 10 == 0 and list(desk.try_orders([("RIVER-01", {it: 1}) for it in CONTRACTS * 9])) != list(expected.values()) * 9:
                     wrong.append("many")
                 if turn % 20 == 0 and desk.margin() != statement:
                     wrong.append("margin")
@@ -263,6 +243,26 @@ class Threads(SessionCase):
         for thread in threads:
             thread.join()
         self.assertEqual([it.quantity for it in desk.positions() if it.account == "NEW"], [200])
+
+    def test_twenty_at_once(self) -> None:
+        desk, wrong = self.session(), []
+        answers = {it.account: it for it in desk.margin()}
+
+        def work(seed: int) -> None:
+            chance = random.Random(seed)
+            for _ in range(100):
+                account, quantity = chance.choice(list(answers)), chance.randint(1, 99)
+                name = f"{account[:5]}-{quantity}"
+                order = desk.try_order(account, {"CLZ5": quantity}, name)
+                if desk.margin(account) != answers[account] or (order.order, order.account) != (name, account):
+                    wrong.append(account)
+
+        threads = [threading.Thread(target=work, args=(seed,)) for seed in range(20)]
+        for thread in threads:
+            thread.start()
+        for thread in threads:
+            thread.join()
+        self.assertEqual(wrong, [])
 
     def test_closed_by_another(self) -> None:
         desk, ends = self.session(), []
@@ -284,26 +284,204 @@ class Threads(SessionCase):
         self.assertEqual(ends, [True] * 3)
 
 
-class Ends(SessionCase):
+class Currencies(Case):
+    def params(self, currency: str, set_id: str = "D20251114") -> bytes:
+        return PARAMS.read_bytes().replace(b"SET,D20251114,1,USD", f"SET,{set_id},1,{currency}".encode())
+
+    def test_currency(self) -> None:
+        desk = self.session()
+        amounts = [
+            desk.margin("RIVER-01").total, desk.margin()["RIVER-01"].total, desk.explain("RIVER-01").total,
+            desk.fill("NEW", {"CLZ5": 1}).total,
+            desk.try_order("RIVER-01", {"CLZ5": 1}).change, desk.try_orders([("RIVER-01", {"CLZ5": 1})])["TRY"].change,
+        ]
+        self.assertEqual({it.currency for it in amounts}, {"USD"})
+        desk.use_set(self.params("JPY", "NEXT"))
+        total = desk.margin("RIVER-01").total
+        self.assertEqual((total.currency, str(total.major())), ("JPY", "1331287"))
+        self.error(span.CurrencyError, lambda: total + amounts[0])
+
+    def test_of_a_client(self) -> None:
+        with span.Span(program=os.environ["SPAN"], timeout=60, digits=3).session(PARAMS, POSITIONS) as desk:
+            self.assertEqual(str(desk.margin("RIVER-01").total.major()), "1331.287")
+            desk.use_set(NEXT)
+            self.assertEqual(str(desk.margin("RIVER-01").total.major()), "1509.294")
+
+    def test_of_a_pipe(self) -> None:
+        os.mkfifo("pipe")
+        threading.Thread(target=lambda: Path("pipe").write_bytes(PARAMS.read_bytes())).start()
+        desk = self.session("pipe")
+        self.assertEqual((desk.margin("RIVER-01").total, desk.margin("RIVER-01").total.currency), (1331287, None))
+
+    def test_file_is_replaced(self) -> None:
+        Path("set.csv").write_bytes(self.params("USD"))
+        desk = self.stand_in("read line; echo OK,OTHER,0,0,0,0,0,0; echo done,1; read line; echo T,A,OTHER,5; echo done,2; read line")
+        self.error(span.FileChangedError, desk.use_set, "set.csv")
+        margin = desk.margin("A")
+        self.assertEqual((desk.set, margin.total, margin.currency), ("OTHER", 5, None))
+
+
+class Timeouts(Case):
+    """A stand-in answers late or not at all."""
+
+    LATE = "n=0; while read line; do n=$((n + 1)); sleep 1; echo T,A,D20251114,$n; echo done,$n; done"
+
+    def test_question(self) -> None:
+        desk = self.stand_in(self.LATE)
+        begun = time.monotonic()
+        error = self.error(span.TimedOut, lambda: desk.margin("A", timeout=0.3))
+        self.assertLess(time.monotonic() - begun, 0.95)
+        self.assertEqual((error.request, error.sent, error.outcome().state), ("MARGIN,A", True, "not yet"))
+        self.assertIsInstance(error, TimeoutError)
+        self.assertEqual(desk.margin("A").total, 2)
+        self.assertEqual((error.outcome(timeout=None).state, desk.left), ("accepted", ()))
+
+    def test_time_in_the_queue_counts(self) -> None:
+        desk = self.stand_in(self.LATE, timeout=0.5)
+        self.error(span.TimedOut, desk.margin, "A")
+        error = self.error(span.TimedOut, lambda: desk.fill("A", {"CLZ5": 1}, timeout=0.01))
+        self.assertEqual((error.request, error.sent, error.outcome().state), ("FILL,A,CLZ5,1", False, "not sent"))
+        self.assertEqual((desk.left, desk.margin("A", timeout=5).total), ((), 2))
+
+    def test_fill(self) -> None:
+        desk = self.stand_in("read line; sleep 60")
+        error = self.error(span.TimedOut, lambda: desk.fill("A", {"CLZ5": 1}, timeout=0.3))
+        (left,) = desk.left
+        self.assertEqual((left.request, left.sent, left.outcome().state), ("FILL,A,CLZ5,1", True, "not yet"))
+        desk.close()
+        self.assertEqual(error.outcome().state, "unknown")
+        self.assertIsInstance(left.outcome().error, span.SessionEnded)
+
+    def test_outcomes(self) -> None:
+        desk = self.stand_in("read a; sleep 1; echo T,A,D20251114,5; echo done,1; read b; sleep 1; echo refused,2,memory; read c")
+        fills = [self.error(span.TimedOut, lambda: desk.fill("A", {"CLZ5": 1}, timeout=0.3))]
+        outcome = fills[0].outcome(timeout=5)
+        self.assertEqual((outcome.state, outcome.result.total, outcome.error), ("accepted", 5, None))
+        fills.append(self.error(span.TimedOut, lambda: desk.fill("A", {"CLZ5": 1}, timeout=0.3)))
+        outcome = fills[1].outcome(timeout=5)
+        self.assertEqual((outcome.state, outcome.result, type(outcome.error)), ("refused", None, span.OutOfMemoryError))
+        self.assertEqual(len(desk.left), 2)
+
+    def test_opening(self) -> None:
+        self.use_program("sleep 60")
+        begun = time.monotonic()
+        error = self.error(span.TimedOut, lambda: span.Session(PARAMS, POSITIONS, timeout=0.1))
+        self.assertLess(time.monotonic() - begun, 5)
+        self.assertIsNone(pickle.loads(pickle.dumps(error)).outcome())
+
+    def test_files_stay_until_they_are_read(self) -> None:
+        place = self.use_temporary_directory()
+        desk = self.stand_in("read -r line; sleep 1; cat ${line#SET,}; echo done,1; read b")
+        error = self.error(span.TimedOut, lambda: desk.use_set(b"OK,D2,0,0,0,0,0,0\n", timeout=0.3))
+        self.assertEqual(len(os.listdir(place)), 1)
+        outcome = error.outcome(timeout=5)
+        self.assertEqual((outcome.state, outcome.result.set, desk.set), ("accepted", "D2", "D2"))
+        self.assertEqual(os.listdir(place), [])
+
+
+class Mismatches(Case):
+    """A stand-in gives answers to other requests: the session ends, and nothing is returned."""
+
+    def test_of_each_call(self) -> None:
+        calls: List[Any] = [
+            (lambda desk: desk.margin("A"),
+             ["T,B,D20251114,5", "R,B,D20251114,CL,1,1,1,1,1,1,1\\nT,A,D20251114,5", "OK,A,1,1,1,1,1,1", ""]),
+            (lambda desk: desk.explain("A"), ["T,B,D20251114,5", "HELD,B,D20251114,CL\\nT,A,D20251114,5", "CHANGE,A,B\\nT,A,D20251114,5"]),
+            (lambda desk: desk.try_order("A", {"C": 1}, "N"),
+             ["ORDER,M,A,D20251114,1,2,1", "ORDER,N,B,D20251114,1,2,1", "T,A,D20251114,5", ""]),
+            (lambda desk: desk.try_orders([("A", {"C": 1})]), ["CHANGE,TRY,B,D20251114,CL,1,2,1\\nORDER,TRY,A,D20251114,1,2,1"]),
+            (lambda desk: desk.fill("A", {"C": 1}), ["T,B,D20251114,5", "R,A,D20251114,CL,1\\nT,A,D20251114,5", "T,AA,D20251114,5", ""]),
+            (lambda desk: desk.use_set(PARAMS), ["T,A,D20251114,5", "OK,D1,1,1,1,1,1,1\\nOK,D1,1,1,1,1,1,1", ""]),
+            (lambda desk: desk.margin(), ["R,A,D20251114,CL,1,1,1,1,1,1,1", "T,A,D20251114,5\\nHELD,A\\nT,B,D20251114,5"]),
+        ]
+        for number, (call, answers) in enumerate(calls):
+            for answer in answers:
+                with self.subTest(f"{number} {answer}"):
+                    text = f"{answer}\\ndone,1\\n" if answer else "done,1\\n"
+                    desk = self.stand_in(f"read request; printf '{text}'; read request")
+                    self.assertIn("the session answered", self.error(span.SessionEnded, call, desk).line)
+                    self.error(span.SessionEnded, desk.margin)
+                    self.assertTrue(desk.closed)
+
+    def test_answer_before_its_request(self) -> None:
+        self.use_program("printf 'OK,D20251114,0,0,0,0,0,0\\ndone,0\\nT,A,D20251114,5\\ndone,1\\n'; read request; sleep 60")
+        self.assertIn("more than its answers", self.error(span.ProgramError, span.Session, PARAMS, POSITIONS).line)
+
+    def test_lines_with_a_rejection(self) -> None:
+        desk = self.stand_in("read request; echo T,A,D20251114,5; echo refused,1,memory; sleep 60")
+        self.error(span.SessionEnded, desk.margin, "A")
+
+
+class Speed(Case):
+    """The package against a client that writes and reads the pipe itself. The bounds also hold on a busy machine."""
+
+    def rates(self, rounds: int, count: int) -> Tuple[float, float]:
+        """How many questions the package and the plain client ask in a second, each in its best round."""
+        desk, request, best = self.session(), b"MARGIN,RIVER-01\n", [0.0, 0.0]
+        command = [os.environ["SPAN"], "session", str(PARAMS), str(POSITIONS)]
+        with subprocess.Popen(command, bufsize=0, stdin=subprocess.PIPE, stdout=subprocess.PIPE) as plain:
+
+            def ask() -> None:
+                os.write(plain.stdin.fileno(), request)
+                while not re.search(rb"^done,.*\n\Z", os.read(plain.stdout.fileno(), 65536), re.MULTILINE):
+                    pass
+
+            os.read(plain.stdout.fileno(), 65536)
+            for _ in range(rounds):
+                for number, call in enumerate((lambda: desk.margin("RIVER-01"), ask)):
+                    begun = time.perf_counter()
+                    for _ in range(count):
+                        call()
+                    best[number] = max(best[number], count / (time.perf_counter() - begun))
+            plain.stdin.close()
+        return best[0], best[1]
+
+    def test_one_at_a_time(self) -> None:
+        ours, plain = self.rates(rounds=10, count=200)
+        print(f"questions a second, one at a time: {ours:.0f}; of a client that uses the pipe itself: {plain:.0f}", flush=True)
+        self.assertGreater(ours / plain, 0.05, (ours, plain))
+
+    def test_many(self) -> None:
+        desk, orders = self.session(), [("RIVER-01", {"CLZ5": number % 99 + 1}, f"O{number}") for number in range(5000)]
+        spent = []
+        for _ in range(5):
+            begun = time.process_time()
+            desk.try_orders(orders)
+            spent.append((time.process_time() - begun) / len(orders))
+        print(f"many orders at once: {min(spent) * 1e6:.1f} microseconds of processor time each", flush=True)
+        self.assertLess(min(spent), 80e-6)
+
+
+class Ends(Case):
     def test_closed(self) -> None:
         with span.Session(PARAMS, POSITIONS) as desk:
             process = desk._channel._process
+            self.assertEqual((desk.closed, repr(desk)), (False, "<Session, set D20251114>"))
         self.assertEqual(process.returncode, 0)
         desk.close()
+        self.assertEqual((desk.closed, repr(desk)), (True, "<Session, closed>"))
         error = self.error(span.SessionEnded, desk.margin)
         self.assertEqual((error.status, str(error)), (None, "the session is closed"))
         self.assertEqual(desk.set, "D20251114")
 
     def test_collected(self) -> None:
         desk = span.Session(PARAMS, POSITIONS)
-        process = desk._channel._process
+        channel = desk._channel
         del desk
         gc.collect()
-        self.assertEqual(process.poll(), 0)
+        latest = time.monotonic() + 10
+        while channel.end is None and time.monotonic() < latest:
+            time.sleep(0.01)
+        self.assertEqual(channel._process.returncode, 0)
+
+    def test_not_pickled(self) -> None:
+        desk = self.session()
+        for copied in (pickle.dumps, copy.copy, copy.deepcopy):
+            self.assertIn("running process", str(self.error(TypeError, copied, desk)))
 
     def test_killed(self) -> None:
         desk = self.session()
-        desk._channel._process.kill()
+        os.kill(desk._channel._process.pid, signal.SIGKILL)
         for _ in range(2):
             error = self.error(span.SessionEnded, desk.margin, "RIVER-01")
             self.assertEqual((error.status, str(error)), (-signal.SIGKILL, "the session ended by signal SIGKILL"))
@@ -311,17 +489,12 @@ class Ends(SessionCase):
 
     def test_killed_while_many_are_tried(self) -> None:
         desk = self.session()
-        timer = threading.Timer(0.1, desk._channel._process.kill)
+        timer = threading.Timer(0.1, os.kill, (desk._channel._process.pid, signal.SIGKILL))
         timer.start()
         with self.assertRaises(span.SessionEnded):
             while True:
                 desk.try_orders([("RIVER-01", {"CLZ5": 1})] * MANY)
         timer.join()
-
-    def stand_in(self, script: str) -> span.Session:
-        """A session of a program that opens it and then runs a script."""
-        self.use_program(f"echo OK,D1,0,0,0,0,0,0; echo done,0; {script}")
-        return self.session()
 
     def test_says_why(self) -> None:
         desk = self.stand_in("read request; echo file: output >&2; exit 6")
@@ -343,6 +516,26 @@ class Ends(SessionCase):
         desk = self.stand_in("read request; echo done,2; read request; echo done,2")
         self.assertIn("done,2", self.error(span.SessionEnded, desk.margin).line)
         self.error(span.SessionEnded, desk.margin)
+
+    def test_died_between_calls(self) -> None:
+        desk = self.session()
+        os.kill(desk._channel._process.pid, signal.SIGKILL)
+        latest = time.monotonic() + 10
+        while not desk.closed and time.monotonic() < latest:
+            time.sleep(0.01)
+        self.assertTrue(desk.closed)
+        self.error(span.SessionEnded, desk.margin)
+
+    def test_closed_while_another_waits(self) -> None:
+        desk = self.stand_in("sleep 60")
+        errors: List[span.SessionEnded] = []
+        thread = threading.Thread(target=lambda: errors.append(self.error(span.SessionEnded, desk.margin)))
+        thread.start()
+        time.sleep(0.1)
+        begun = time.monotonic()
+        desk.close()
+        thread.join()
+        self.assertEqual((len(errors), time.monotonic() - begun < 5), (1, True))
 
     def test_does_not_end(self) -> None:
         with unittest.mock.patch("span_margin._channel.PATIENCE", 0.1):

@@ -5,12 +5,12 @@ ghost use Rattle.std.specs.Prelude.{◌≡◌};
 
 use span_tables::name::Name;
 use std::alloc::AllocError;
-use std::error::Error;
 use std::fmt;
 use std::fmt::Display;
+use thiserror::Error;
 
 /// The reasons why positions do not fit the tables.
-#[derive(Debug, Drop, PartialEq, Eq)]
+#[derive(Debug, Drop, PartialEq, Eq, Error)]
 pub enum BindFault {
     /// B1: a contract that the tables do not have.
     UnknownContract { at: usize, account: Name },
@@ -23,7 +23,7 @@ pub enum BindFault {
 }
 
 /// The reasons why orders do not fit the tables and the portfolios of accounts.
-#[derive(Debug, Drop, PartialEq, Eq)]
+#[derive(Debug, Drop, PartialEq, Eq, Error)]
 pub enum OrderBindFault {
     /// B1: a contract that the tables do not have.
     UnknownContract { at: usize, order: Name },
@@ -60,8 +60,6 @@ impl Display for BindFault {
     }
 }
 
-impl Error for BindFault {}
-
 impl Display for OrderBindFault {
     ghost use Rattle.binding.specs.BindTexts.{order_bind_text};
     ghost use Rattle.std.specs.Prelude.{Some};
@@ -86,8 +84,6 @@ impl Display for OrderBindFault {
         }
     }
 }
-
-impl Error for OrderBindFault {}
 
 impl From<AllocError> for BindFault {
     ghost from_gives = { λ _ e. e ≡ bind.OutOfMemory };

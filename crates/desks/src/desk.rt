@@ -1,6 +1,5 @@
 //! The device from which a session takes its requests and to which it gives its answers.
-use std::error::Error;
-use std::fmt;
+use thiserror::Error;
 
 /// The maximum number of bytes of a request.
 pub const MAX_LINE: usize = 4096;
@@ -17,24 +16,15 @@ pub enum Taken {
 }
 
 /// The reasons why a desk can serve no more requests.
-#[derive(Clone, Copy, Debug, PartialEq, Eq)]
+#[derive(Clone, Copy, Debug, Drop, PartialEq, Eq, Error)]
 pub enum DeskFault {
     /// A read of the requests failed.
+    #[error("the requests cannot be read")]
     Input,
     /// A write of an answer failed.
+    #[error("an answer cannot be written")]
     Output,
 }
-
-impl fmt::Display for DeskFault {
-    fn fmt<W: fmt::Write>(&self, f: &mut fmt::Formatter<W>) -> fmt::Result {
-        match self {
-            DeskFault::Input => write!(f, "the requests cannot be read"),
-            DeskFault::Output => write!(f, "an answer cannot be written"),
-        }
-    }
-}
-
-impl Error for DeskFault {}
 
 /// A device that hands over requests and takes answers, one at a time. Its log records both in their order.
 pub trait Desk {

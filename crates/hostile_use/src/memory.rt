@@ -431,7 +431,7 @@ fn publish_set<S: ShelfName, R: Wait + Abort>(
     alloc: Global,
     history: History,
 ) -> Result<(), SpanFault>
-    requires { history ≡ S.book }
+    requires { history.book ≡ S.book }
 {
     let set = set_of(alloc, one_future::PARAMS).ok_or(SpanFault::Memory)?;
     let (mut publisher, mut readers) = shelf::<S, &R>(rt, alloc, history, 1)?;

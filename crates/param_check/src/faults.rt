@@ -4,12 +4,12 @@ ghost use Rattle.std.specs.Prelude.{◌≡◌};
 
 pub use binding::faults::{BindFault, OrderBindFault};
 use std::alloc::AllocError;
-use std::error::Error;
 use std::fmt;
 use std::fmt::Display;
+use thiserror::Error;
 
 /// A rule that a record of a parameter file breaks.
-#[derive(Clone, Copy, Debug, Drop, PartialEq, Eq)]
+#[derive(Clone, Copy, Debug, Drop, PartialEq, Eq, Error)]
 pub enum CheckFault {
     /// C1: the record has the id of an earlier COMMODITY.
     DuplicateCommodity { at: usize },
@@ -69,8 +69,6 @@ impl Display for CheckFault {
         }
     }
 }
-
-impl Error for CheckFault {}
 
 impl From<AllocError> for CheckFault {
     ghost from_gives = { λ _ e. e ≡ check.OutOfMemory };

@@ -4,6 +4,7 @@ ghost use Rattle.span_tables.specs.Tables.{facts_in};
 ghost use Rattle.span_tables.specs.declared.portfolios.Holding.{Holding};
 ghost use Rattle.plan_ir.specs.Figures.{total_to, value_to};
 ghost use Rattle.plan_ir.specs.Plans.{op_at};
+ghost use Rattle.plan_ir.specs.near.Nothing.{nothing_held};
 ghost use Rattle.plan_ir.specs.declared.ops.Op.TheVariants as operation;
 ghost use Rattle.plan_ir.specs.declared.values.Value.TheVariants as value;
 ghost use Rattle.plan_compiler.specs.Compiled.{IsCompiled, step_meaning};
@@ -49,13 +50,16 @@ impl Model for CompiledSet {
     ghost use Rattle.std.specs.Arc.{arc_value};
     ghost use Rattle.plan_compiler.specs.Compiled.{SetView};
     ghost use Rattle.plan_compiler.specs.near.Sets.{IsSet};
+    ghost use Rattle.plan_ir.specs.near.Nothing.{nothing_held};
+    ghost use Rattle.std.specs.Prelude.{◌≡◌};
 
     ghost Value = { SetView };
 
     ghost view = { λ set. record { tables = (arc_value set.shared).tables; plan = (arc_value set.shared).plan } };
 
     ghost invariant = { λ set. IsSet (arc_value set.shared).tables (arc_value set.shared).plan
-        (arc_value set.shared).firsts.items (arc_value set.shared).missing.items (arc_value set.shared).ready.items };
+        (arc_value set.shared).firsts.items (arc_value set.shared).missing.items (arc_value set.shared).ready.items
+        × (set.nothing ≡ nothing_held) };
 }
 
 impl CompiledSet {
@@ -77,7 +81,9 @@ impl CompiledSet {
     }
 
     /// Returns the values of a commodity without held contracts.
-    pub fn nothing_held(&self) -> &NothingHeld {
+    pub fn nothing_held(&self) -> &NothingHeld
+        ensures { result.now ≡ nothing_held }
+    {
         &self.nothing
     }
 

@@ -1,9 +1,10 @@
 //! The values of a commodity without held contracts (docs/METHOD.md, "The plan of steps").
-ghost use Rattle.std.specs.Prelude.{◌≡◌, ◌↔◌, [], ◌∷◌, List, IfSome, IsTrue, pos};
+ghost use Rattle.std.specs.Prelude.{◌≡◌, ◌↔◌, [], ◌∷◌, List, IfOk, IfSome, IsTrue, pos};
 ghost use Rattle.std.specs.Arc.{arc_value};
 ghost use Rattle.span_tables.specs.Tables.{AcceptedTables};
 ghost use Rattle.span_tables.specs.declared.portfolios.Holding.{Holding};
 ghost use Rattle.plan_ir.specs.Apply.{Takes, value_on};
+ghost use Rattle.plan_ir.specs.near.Nothing.{nothing_held};
 ghost use Rattle.plan_ir.specs.declared.values.Value.{Value};
 ghost use Rattle.plan_ir.specs.declared.values.Value.TheVariants as value;
 ghost use Rattle.scan_risk.specs.Scenarios.{scan_of, scenario_sums};
@@ -25,7 +26,7 @@ use std::marker::Model;
 use std::sync::Arc;
 
 /// The values of a commodity's steps before its figures when the account holds none of its contracts. They are made
-/// once for a parameter set. Amounts are in minor units.
+/// once for a parameter set. Amounts are in minor units. Contracts see the six values.
 #[derive(Drop)]
 pub struct NothingHeld {
     held: Arc<Value>,
@@ -38,11 +39,18 @@ pub struct NothingHeld {
 
 impl Model for NothingHeld {
     ghost use Rattle.std.specs.Arc.{arc_value};
-    ghost use Rattle.plan_ir.specs.near.Nothing.{AreNothing};
+    ghost use Rattle.plan_ir.specs.near.Nothing.{AreNothing, EarlyValues};
 
-    ghost Value = { Unit {0} };
+    ghost Value = { EarlyValues };
 
-    ghost view = { λ n. tt };
+    ghost view = { λ n. record {
+      held = arc_value n.held;
+      sums = arc_value n.sums;
+      scan = arc_value n.scan;
+      months = arc_value n.months;
+      tiers = arc_value n.tiers;
+      amount = arc_value n.amount;
+    } };
 
     ghost invariant = { λ n. AreNothing (arc_value n.held) (arc_value n.sums) (arc_value n.scan)
         (arc_value n.months) (arc_value n.tiers) (arc_value n.amount) };
@@ -57,7 +65,9 @@ fn are_of_nothing(sums: &[i64; SCENARIOS]) -> bool
 
 impl NothingHeld {
     /// Returns the values of a commodity of these tables without held contracts. `Err` is out of memory.
-    pub fn new(alloc: Global, tables: &Tables) -> Result<NothingHeld, AllocError> {
+    pub fn new(alloc: Global, tables: &Tables) -> Result<NothingHeld, AllocError>
+        ensures { IfOk result (λ nothing. nothing ≡ nothing_held) }
+    {
         let held = Held::none(alloc, tables)?;
         let sums = sums(&held);
         let months = month_deltas(alloc, &held)?;

@@ -67,7 +67,8 @@ impl Plain<CompiledSet, CompiledSet, u64> for Add {
     ghost state = { λ set. None };
 }
 
-/// The history of a future shelf. It has no publications and belongs to no shelf yet. Contracts see its book.
+/// The history of a future shelf. It has no publications and belongs to no shelf yet. Contracts see its book and its
+/// publications.
 #[derive(Drop)]
 pub struct History {
     count: Word<CompiledSet, u64, Counted>,
@@ -75,20 +76,21 @@ pub struct History {
 }
 
 impl Model for History {
-    ghost use Rattle.logbook.specs.Pages.{Book};
-    ghost use Rattle.plan_shelf.specs.near.History.{counter_of};
+    ghost use Rattle.plan_shelf.specs.near.History.{HistoryView, counter_of};
     ghost use Rattle.std.specs.Prelude.{◌≡◌, []};
 
-    ghost Value = { Book };
+    ghost Value = { HistoryView };
 
-    ghost view = { λ h. h.seen.book };
+    ghost view = { λ h. record { book = h.seen.book; published = h.seen.log } };
 
     ghost invariant = { λ h. (h.seen.log ≡ []) × (h.count ≡ counter_of h.seen.book) };
 }
 
 impl History {
     /// Returns a new history, with its own book.
-    pub fn new() -> History {
+    pub fn new() -> History
+        ensures { result.published ≡ [] }
+    {
         let (seen, mut first, _second) = Seen::open(Start::alone(), 0, 0);
         History {
             count: Word::tracked(0, &mut first),
@@ -98,7 +100,7 @@ impl History {
 
     /// Converts the history into its counter and its empty beginning, for a shelf of this name.
     pub(crate) fn for_shelf<S: ShelfName>(self) -> (Counter<S>, Beginning<S>)
-        requires { self ≡ S.book }
+        requires { self.book ≡ S.book }
         ensures { result.1 ≡ [] }
     {
         let History { count, seen } = self;

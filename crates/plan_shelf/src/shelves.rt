@@ -28,7 +28,7 @@ pub fn shelf<S: ShelfName, R: Wait + Drop>(
     history: History,
     readers: usize,
 ) -> Result<(Publisher<S, R>, Vec<Reader<S>>), ShelfFault>
-    requires { history ≡ S.book }
+    requires { history.book ≡ S.book }
     ensures readers { (result ≡ Err fault.Readers) ↔ ((readers ≡ 0) ⊎ (16 < readers)) }
     ensures ok { IfOk result (λ made. (made.0 ≡ []) × (vec_len made.1 ≡ readers) × All (λ reader. reader ≡ []) made.1.items) }
     ensures cause { IfErr result (λ cause. (cause ≡ fault.Readers) ⊎ (cause ≡ fault.OutOfMemory)) }
@@ -46,7 +46,7 @@ fn empty_shelf<S: ShelfName, R: Wait + Drop>(
     history: History,
     readers: usize,
 ) -> Result<(Publisher<S, R>, Vec<Reader<S>>), AllocError>
-    requires book { history ≡ S.book }
+    requires book { history.book ≡ S.book }
     requires readers { (0 < readers) × (readers ≤ MAX_READERS) }
     ensures { IfOk result (λ made. (made.0 ≡ []) × (vec_len made.1 ≡ readers) × All (λ reader. reader ≡ []) made.1.items) }
 {

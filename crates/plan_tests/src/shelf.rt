@@ -58,7 +58,7 @@ fn finds_nothing<S: ShelfName, R: Wait + Abort>(rt: &R, reader: &mut Reader<S>) 
 
 // Tests what a reader finds before the first publication, after the second, and after the publisher is dropped.
 fn learns<S: ShelfName, R: Wait + Abort>(rt: &R, alloc: Global, history: History)
-    requires { history ≡ S.book }
+    requires { history.book ≡ S.book }
 {
     let made = shelf::<S, &R>(rt, alloc, history, 1);
     let (mut publisher, mut readers) = made.expect(rt, "a shelf");
@@ -153,7 +153,7 @@ fn beside<S: ShelfName + Send + Sync, R: Threads + Wait + Abort + Sync>(
     alloc: Global,
     history: History,
 )
-    requires { history ≡ S.book }
+    requires { history.book ≡ S.book }
 {
     let made = shelf::<S, &R>(rt, alloc, history, 2);
     let (mut publisher, mut readers) = made.expect(rt, "a shelf");

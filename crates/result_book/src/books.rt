@@ -9,15 +9,15 @@ use crate::batches::BatchRows;
 use indexmap::IndexMap;
 use span_tables::name::Name;
 use std::alloc::{AllocError, Global};
-use std::error::Error;
 use std::fmt;
 use std::fmt::Display;
 use std::marker::Model;
 use std::sync::Arc;
 use step_scheduler::rows::Row;
+use thiserror::Error;
 
 /// The reason why a call of a book fails.
-#[derive(Clone, Copy, Debug, Drop, PartialEq, Eq)]
+#[derive(Clone, Copy, Debug, Drop, PartialEq, Eq, Error)]
 pub enum BookFault {
     /// No batch of this number was opened.
     NoSuchBatch,
@@ -44,8 +44,6 @@ impl Display for BookFault {
         }
     }
 }
-
-impl Error for BookFault {}
 
 /// A row that was not added, and the reason.
 #[derive(Drop)]

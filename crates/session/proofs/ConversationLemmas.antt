@@ -8,7 +8,8 @@ use Rattle.desks.specs.Events.{Asked, Event, Told}
 use Rattle.sources.specs.Files.{File, ReadGives}
 use Rattle.sources.specs.Reads.{ReadsAll}
 use Rattle.session.specs.Answers.{State}
-use Rattle.session.specs.Conversations.{AreFromSource, IsFromSource, Turn, answer_of, answer_text, events_from, file_of, files_of, log_of}
+use Rattle.session.specs.Conversations.{AreFromSource, HasFileAsked, IsFromSource, Turn, answer_of, answer_text, events_from, file_of}
+use Rattle.session.specs.Conversations.{files_of, log_of}
 use Rattle.session.specs.Conversations.{opening_text, reads_of, state_after, state_behind}
 
 -- ---- files
@@ -23,7 +24,7 @@ read_more reads (asked ∷ first) last old mid new done more =
 module _ {S : Type 0} (known : List ℕ → Option File) (reads : S → List ℕ → Bool → S → Type 0) where
   -- no turns read no files
   pub no_turns : (old : S) → AreFromSource known reads old [] old
-  no_turns old = record { files = λ k d lt. absurd (omega arith); in_order = refl }
+  no_turns old = record { asked = λ k d lt. absurd (omega arith); files = λ k d lt. absurd (omega arith); in_order = refl }
 
   -- one more turn reads its file, from a source that has the same files
   pub one_more_turn : (later : List ℕ → Option File) (old mid new : S) (turns : List Turn) (turn : Turn)
@@ -37,6 +38,7 @@ module _ {S : Type 0} (known : List ℕ → Option File) (reads : S → List ℕ
       let asked = get_or (files_of (turn ∷ [])) k d in
       subst (λ o. IfSome o (λ file. ReadGives (λ bytes. bytes) file asked.1)) (same asked.0) (more.files k d lt) in
       record {
+        asked = All-append HasFileAsked turns (turn ∷ []) done.asked more.asked;
         files = subst (λ all. All (IsFromSource known) all) (sym files)
             (All-append (IsFromSource known) (files_of turns) (files_of (turn ∷ [])) done.files from);
         in_order = subst (λ all. ReadsAll reads old all new)

@@ -1,17 +1,18 @@
 -- One turn of a session: the file that it reads, its answer, and the state after it.
 use Rattle.std.proofs.Common.{◌≡◌, ℕ, Bool, true, false, List, [], ◌∷◌, ◌++◌, Ok, Err, Option, Some, None, Result, map, refl, sym}
 use Rattle.std.proofs.Common.{◌∙◌, ap, arith, subst}
+use Rattle.std.proofs.lemmas.List.Elements.{All-cons, All-nil}
 use Rattle.std.specs.List.{cons_option}
 use Rattle.std.specs.Option.{option_to_list}
-use Rattle.std.specs.Prelude.{⊤, All, MatchBool, OnOk, if◌then◌else◌, is_err, is_ok}
+use Rattle.std.specs.Prelude.{⊤, All, MatchBool, OnOk, if◌then◌else◌, is_err, is_ok, is_some, option_map}
 use Rattle.desks.specs.Events.{Event, told_by}
 use Rattle.desks.specs.declared.desk.DeskFault.{DeskFault}
 use Rattle.sources.specs.Files.{File}
 use Rattle.sources.specs.Reads.{ReadsAll}
 use Rattle.span_money.specs.LineFields.{line}
 use Rattle.session.specs.Answers.{Answered, State, answer_to}
-use Rattle.session.specs.Conversations.{AreFromSource, IsFromSource, IsTurn, Turn, answer_of, answer_on, answer_text, file_in, file_of}
-use Rattle.session.specs.Conversations.{files_of, given, refused_line, request_on, state_after}
+use Rattle.session.specs.Conversations.{AreFromSource, HasFileAsked, IsFromSource, IsTurn, Turn, answer_of, answer_on, answer_text}
+use Rattle.session.specs.Conversations.{file_in, file_of, files_of, given, refused_line, request_on, state_after}
 use Rattle.session.specs.Refusals.{Refused, refused_by}
 use Rattle.session.specs.Refusals as refused
 use Rattle.session.specs.Requests.{Asked, request_of}
@@ -32,27 +33,40 @@ not_given : (name : Option (List ℕ)) → given name None ≡ None
 not_given (Some name) = refl
 not_given None = refl
 
+-- what was read stands for a file exactly if something was read
+pub given_if_read : {X Y : Type 0} (f : X → Y) (o : Option X) (b : Bool) → is_some o ≡ b → is_some (option_map f o) ≡ b
+given_if_read f (Some x) b is = is
+given_if_read f None b is = is
+
+-- each of one turn
+each_of_one : (turn : Turn) → HasFileAsked turn → All HasFileAsked (turn ∷ [])
+each_of_one turn has = All-cons HasFileAsked turn [] has (All-nil HasFileAsked)
+
 module _ {S : Type 0} (known : List ℕ → Option File) (reads : S → List ℕ → Bool → S → Type 0) (before after : S) where
   -- a turn reads the file that its line asks for
   pub turn_reads : (text : List ℕ) (file : Option File) (memory : Bool) (asked : Result Asked RequestFault) → request_of text ≡ asked
+      → is_some file ≡ is_some (file_in asked)
       → IsRead known reads before (file_in asked) file after
       → AreFromSource known reads before (record { request = Some text; file = file; is_out_of_memory = memory } ∷ []) after
-  turn_reads text file memory asked is read =
+  turn_reads text file memory asked is has read =
       let turn : Turn = record { request = Some text; file = file; is_out_of_memory = memory } in
       let e : option_to_list (given (file_in asked) file) ≡ files_of (turn ∷ []) =
       ap (λ q. option_to_list (given (file_in q) file)) (sym is) ∙ one_file (file_of turn) in
       record {
+        asked = each_of_one turn (λ saved. has ∙ ap (λ q. is_some (file_in q)) (sym is));
         files = subst (λ files. All (IsFromSource known) files) e read.files;
         in_order = subst (λ files. ReadsAll reads before (map (λ f. (f.0, is_ok f.1)) files) after) e read.in_order;
       }
 
   -- a turn without a file reads none
-  pub turn_reads_none : (request : Option (List ℕ)) (memory : Bool) → after ≡ before
+  pub turn_reads_none : (request : Option (List ℕ)) (memory : Bool)
+      → (memory ≡ false → false ≡ is_some (file_in (request_on request))) → after ≡ before
       → AreFromSource known reads before (record { request = request; file = None; is_out_of_memory = memory } ∷ []) after
-  turn_reads_none request memory is =
+  turn_reads_none request memory none is =
       let turn : Turn = record { request = request; file = None; is_out_of_memory = memory } in
       let e : [] ≡ files_of (turn ∷ []) = ap (λ o. cons_option o []) (sym (not_given (file_in (request_on request)))) in
       record {
+        asked = each_of_one turn none;
         files = subst (λ files. All (IsFromSource known) files) e (λ k d lt. absurd (omega arith));
         in_order = subst (λ files. ReadsAll reads before (map (λ f. (f.0, is_ok f.1)) files) after) e is;
       }
@@ -74,6 +88,16 @@ form_refused s file asked e r is fault = by_fault (is_memory_fault e) is fault w
       → MatchBool (is_memory r) ⊤ (answer_on s file asked ≡ Err (refused_by r))
   by_fault true is fault = rw is fault
   by_fault false is fault = rw (is, fault) refl
+
+-- a line that is not a request asks for no file
+pub asks_for_nothing : (asked : Result Asked RequestFault) (e : RequestFault) (r : Refusal)
+    → MatchBool (is_memory_fault e) (r ≡ refusal.Memory) (r ≡ refusal.Form e)
+    → MatchBool (is_memory_fault e) ⊤ (asked ≡ Err e) → is_memory r ≡ false → false ≡ is_some (file_in asked)
+asks_for_nothing asked e r is fault spoken = by_fault (is_memory_fault e) is fault where
+  by_fault : (b : Bool) → MatchBool b (r ≡ refusal.Memory) (r ≡ refusal.Form e) → MatchBool b ⊤ (asked ≡ Err e)
+      → false ≡ is_some (file_in asked)
+  by_fault true is fault = let never = rw is at spoken in cc
+  by_fault false is fault = rw fault refl
 
 -- a refusal leaves the state unchanged, and so does an allocation failure
 refused_state : (s : State) (memory : Bool) (answer : Result Answered Refused) (r : Refusal)
@@ -98,11 +122,11 @@ module _ {S : Type 0} (known : List ℕ → Option File) (reads : S → List ℕ
     (s next : State) (n : ℕ) (written : List ℕ) where
   -- a request that was answered
   pub turn_answered : (text : List ℕ) (file : Option File) (asked : Asked) → request_of text ≡ Ok asked
-      → IsRead known reads before (file_in (Ok asked)) file after
+      → is_some file ≡ is_some (file_in (Ok asked)) → IsRead known reads before (file_in (Ok asked)) file after
       → next ≡ state_after s (answer_to s file asked) → written ≡ answer_text n (answer_to s file asked)
       → IsTurn known reads before s n (record { request = Some text; file = file; is_out_of_memory = false }) after next written
-  turn_answered text file asked is read state answer = record {
-    source = turn_reads known reads before after text file false (Ok asked) is read;
+  turn_answered text file asked is has read state answer = record {
+    source = turn_reads known reads before after text file false (Ok asked) is has read;
     state = rw is state;
     answer = λ saved. rw is answer;
   }
@@ -126,7 +150,7 @@ module _ {S : Type 0} (known : List ℕ → Option File) (reads : S → List ℕ
       → IsTurn known reads before s n (record { request = None; file = None; is_out_of_memory = memory }) after next written
   turn_too_long memory source same spoken =
       turn_refused (record { request = None; file = None; is_out_of_memory = memory }) (refusal.Form form.LineTooLong)
-      (turn_reads_none known reads before after None memory source) same refl (λ saved. (refl, spoken saved))
+      (turn_reads_none known reads before after None memory (λ saved. refl) source) same refl (λ saved. (refl, spoken saved))
 
   -- a desk was given the answer to a request
   pub turn_written : (request asked : Option (List ℕ)) (file : Option File) (old new : List Event) (result : Result (Unit {0}) DeskFault)

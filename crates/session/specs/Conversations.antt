@@ -1,6 +1,6 @@
 -- A whole conversation: the answers to a list of requests, one after the other.
 use Rattle.std.specs.Prelude.{ℕ, ◌+◌, Bool, if◌then◌else◌, List, [], ◌∷◌, ◌++◌, All, filter_map, map, codes, decimal}
-use Rattle.std.specs.Prelude.{◌≡◌, ◌⊎◌, Option, Some, None, IfSome, Result, Ok, Err, false, true, is_ok}
+use Rattle.std.specs.Prelude.{◌≡◌, ◌⊎◌, Option, Some, None, IfSome, Result, Ok, Err, false, true, is_ok, is_some}
 use Rattle.span_money.specs.LineFields.{Line, line}
 use Rattle.desks.specs.Events.{Event, Asked, Told}
 use Rattle.desks.specs.declared.desk.DeskFault.{DeskFault}
@@ -88,11 +88,16 @@ reads_of turns = map (λ f. (f.0, is_ok f.1)) (files_of turns)
 abbrev pub IsFromSource : (List ℕ → Option File) → List ℕ × File → Type 0
 IsFromSource known asked = IfSome (known asked.0) (λ file. ReadGives (λ bytes. bytes) file asked.1)
 
--- The results for the files that were asked for in these turns agree with the source, as far as it is known, and no
--- other file was read. `known` is the content of the source under a name, and `reads` means that a file was asked for,
--- as in `ReadsAll`.
+-- a turn has the result of reading a file exactly if its request asks for one, unless memory ran out
+abbrev pub HasFileAsked : Turn → Type 0
+HasFileAsked turn = turn.is_out_of_memory ≡ false → is_some turn.file ≡ is_some (file_in (request_on turn.request))
+
+-- The files that these turns ask for were read, the results agree with the source, as far as it is known, and no other
+-- file was read. `known` is the content of the source under a name, and `reads` means that a file was asked for, as in
+-- `ReadsAll`.
 pub record AreFromSource {S : Type 0} (known : List ℕ → Option File) (reads : S → List ℕ → Bool → S → Type 0) (before : S)
     (turns : List Turn) (after : S) : Type 0 where
+  pub asked : All HasFileAsked turns
   pub files : All (IsFromSource known) (files_of turns)
   pub in_order : ReadsAll reads before (reads_of turns) after
 

@@ -1,11 +1,11 @@
 //! Why a request is rejected. `field` counts the fields of its line from 1.
 use std::alloc::AllocError;
-use std::error::Error;
 use std::fmt;
 use std::fmt::Display;
+use thiserror::Error;
 
 /// Why a line is not a valid request. If a line has several faults, the lowest-numbered one is reported.
-#[derive(Clone, Copy, Debug, Drop, PartialEq, Eq)]
+#[derive(Clone, Copy, Debug, Drop, PartialEq, Eq, Error)]
 pub enum RequestFault {
     /// X1: the line has more than 4096 bytes.
     LineTooLong,
@@ -45,8 +45,6 @@ impl Display for RequestFault {
         }
     }
 }
-
-impl Error for RequestFault {}
 
 impl From<AllocError> for RequestFault {
     ghost use Rattle.session.specs.declared.faults.RequestFault.TheVariants as fault;

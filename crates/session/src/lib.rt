@@ -8,6 +8,7 @@ mod carried;
 pub mod conversation;
 pub mod faults;
 pub mod laws;
+pub mod limit_digits;
 mod positions;
 pub mod refusals;
 pub mod requests;

@@ -4,12 +4,12 @@ use crate::faults::RequestFault;
 use span_tables::name::Name;
 use statement_text::faults::SpanFault;
 use std::alloc::AllocError;
-use std::error::Error;
 use std::fmt;
 use std::fmt::Display;
+use thiserror::Error;
 
 /// Why a request is rejected. A rejected request changes nothing. `field` counts the fields of the request from 1.
-#[derive(Debug, Drop)]
+#[derive(Debug, Drop, Error)]
 pub enum Refusal<'a> {
     /// X1 to X6: the line is not a valid request.
     Form(RequestFault),
@@ -63,8 +63,6 @@ impl Display for Refusal<'_> {
         }
     }
 }
-
-impl Error for Refusal<'_> {}
 
 impl From<AllocError> for Refusal<'_> {
     ghost use Rattle.session.specs.declared.refusals.Refusal.TheVariants as refusal;

@@ -16,7 +16,8 @@ ghost use Rattle.statement_text.specs.Gives.{Gives};
 ghost use Rattle.statement_text.specs.Statement.{statement_text};
 ghost use Rattle.span_money.specs.LineFields.{line};
 ghost use Rattle.std.specs.Arc.{arc_value};
-ghost use Rattle.std.specs.Prelude.{◌≡◌, ◌++◌, [], ⊤, Err, IfErr, IfOk, List, MatchBool, Ok, OnErr, OnOk, Option, Some, false, is_err, ℕ};
+ghost use Rattle.std.specs.Prelude.{◌≡◌, ◌++◌, [], ⊤, Err, IfErr, IfOk, List, MatchBool, Ok, OnErr, OnOk, Option, Some, false};
+ghost use Rattle.std.specs.Prelude.{is_err, is_some, ℕ};
 ghost use Rattle.worker_pool.specs.Batches.{AllFit};
 
 use crate::accounts::Accounts;
@@ -140,6 +141,7 @@ fn read_asked<S: Sources>(
     sources: &mut S,
     request: &Request<'_>,
 ) -> Option<Result<Vec<u8>, ReadFault>>
+    ensures asked { is_some result ≡ is_some (file_in (Ok (asked_by request.now))) }
     ensures read { IsRead (S.file sources.old) S.reads sources.old (file_in (Ok (asked_by request.now)))
         (file_given (λ v. v.items) result) sources.new }
     ensures same { (n : List ℕ) → S.file sources.new n ≡ S.file sources.old n }
@@ -259,7 +261,7 @@ impl Session {
     }
 
     // Appends the lines of the answer to a request, and returns the change that it makes. `file` is the result of
-    // reading the file that the request asks for.
+    // reading the file that the request asks for. A SET without one names the stream of requests.
     #[tactic(auto, unfolding(crate::specs::Answers::answer_to))]
     fn push_lines<'a, R: Threads + Wait + Clock + Sync, G: Gate>(
         &mut self,
@@ -270,6 +272,7 @@ impl Session {
     ) -> Result<Change, Refusal<'a>>
         requires empty { out.old.items ≡ [] }
         requires tradable { IsTradable request }
+        requires read { is_some file ≡ is_some (file_in (Ok (asked_by request))) }
         ensures same { self.new ≡ self.old }
         ensures answer { Answers (changed self.old) result out.new.items
             (answer_to self.old (file_given (λ v. v.items) file) (asked_by request.entry)) }
@@ -291,9 +294,8 @@ impl Session {
             }
             Request::Set { file: name } => {
                 return match file {
-                    _ if name == STDIN => Err(Refusal::File { name }),
                     Some(read) => self.push_set(out, name, read),
-                    None => Err(Refusal::Memory),
+                    None => Err(Refusal::File { name }),
                 };
             }
             Request::Positions => push_positions(out, set, accounts)?,
@@ -329,6 +331,7 @@ impl Session {
     ) -> Result<(), Refusal<'a>>
         requires empty { out.old.items ≡ [] }
         requires tradable { IsTradable request }
+        requires read { is_some file ≡ is_some (file_in (Ok (asked_by request))) }
         ensures text { OnOk result (out.new.items
             ≡ answer_text number (answer_to self.old (file_given (λ v. v.items) file) (asked_by request.entry))) }
         ensures state { OnOk result (self.new

@@ -1,10 +1,11 @@
 //! The requests of lines, computed by the definitions.
 #![tactic(auto, unfolding(crate::specs::Requests::request_of))]
 
-ghost use Rattle.std.specs.Prelude.{◌≡◌, [], ◌∷◌, Err, Ok, codes, neg_ℤ, pos, true};
+ghost use Rattle.std.specs.Prelude.{◌≡◌, [], ◌∷◌, Err, Ok, codes, neg_ℤ, pos, replicate, true};
 ghost use Rattle.std.specs.Str.{is_utf8};
 ghost use Rattle.session.specs.Requests.{Explain, Fill, Margin, MarginOf, Positions, Set, Try, request_of};
 ghost use Rattle.session.specs.declared.faults.RequestFault.TheVariants as fault;
+ghost use Rattle.session.specs.near.Samples.{fill_of};
 
 // A request for each word.
 fn requests()
@@ -17,6 +18,13 @@ fn requests()
         ≡ Ok (Fill (codes "X")
         (record { contract = codes "FA"; quantity = neg_ℤ (pos 3) } ∷ record { contract = codes "FB"; quantity = pos 2 } ∷ [])) }
     ensures positions { request_of (codes "POSITIONS") ≡ Ok Positions }
+{}
+
+// A request has at most 64 pairs of contract and quantity.
+fn most_pairs()
+    ensures accepted { request_of (fill_of 64)
+        ≡ Ok (Fill (codes "X") (replicate 64 (record { contract = codes "A"; quantity = pos 1 }))) }
+    ensures refused { request_of (fill_of 65) ≡ Err fault.FieldCount }
 {}
 
 // A file name may contain commas. (Whether it is UTF-8 is not computed here.)

@@ -289,6 +289,7 @@ conversed_before : (file later : List ℕ → Option File) (input : Option (List
     → IsConversation (around file input turns is_unwritten) ending
 conversed_before file later input turns is_unwritten ending same h = record {
   first = h.first;
+  asked = h.asked;
   files = same_source later file (files_of turns) same h.files;
   ends = ends_before ending h.ends;
 } where

@@ -10,8 +10,8 @@ use Rattle.desks.specs.Requests.{requests_in}
 use Rattle.desks.specs.declared.desk.DeskFault.{DeskFault}
 use Rattle.desks.specs.declared.desk.DeskFault.TheVariants as desk
 use Rattle.session.specs.Answers.{State}
-use Rattle.session.specs.Conversations.{AreFromSource, IsFromSource, IsServed, Turn, answer_text, answers_from, events_from, files_of}
-use Rattle.session.specs.Conversations.{log_of, opening_text, state_after}
+use Rattle.session.specs.Conversations.{AreFromSource, HasFileAsked, IsFromSource, IsServed, Turn, answer_text, answers_from}
+use Rattle.session.specs.Conversations.{events_from, files_of, log_of, opening_text, state_after}
 use Rattle.session.specs.Conversations as conversation
 use Rattle.sources.specs.Files.{File, ReadGives}
 use Rattle.writers.specs.Streams.{Says, Stream}
@@ -96,12 +96,14 @@ module _ (file : List ℕ → Option File) (s : State) (turns : List Turn) (d : 
       (d.received, dealt.front, sym (requests_are (Err desk.Input) served) ∙ (cut refl).read)
   ends_so (Err desk.Output) served done cut unwritten false is = let failed = unwritten refl in cc
 
-  pub conversed : (r : Result (Unit {0}) DeskFault) → IsServed s r turns [] d.log → All (IsFromSource file) (files_of turns)
+  pub conversed : (r : Result (Unit {0}) DeskFault) → IsServed s r turns [] d.log → All HasFileAsked turns
+      → All (IsFromSource file) (files_of turns)
       → OnOk r (IsAtEnd d ⊎ (length turns ≡ 2 ^ 64 - 1)) → (r ≡ Err desk.Input → IsCutOff d)
       → (r ≡ Err desk.Output → d.output.failed ≡ true)
       → IsConversation (around file d.given turns d.output.failed) (ending_of d.output.failed r)
-  conversed r served files done cut unwritten = record {
+  conversed r served asked files done cut unwritten = record {
     first = first r served;
+    asked = asked;
     files = files;
     ends = ends_so r served done cut unwritten d.output.failed refl;
   }
@@ -166,7 +168,7 @@ serves_session file reads before after s r d input given old_out new_out old_err
       source,
       rw (← same_input, ← same_old, ← same_new) (record {
         ending = ending_of d.output.failed r;
-        is = conversed file s turns d dealt r served source.files done cut unwritten;
+        is = conversed file s turns d dealt r served source.asked source.files done cut unwritten;
         told = ended_tells file s turns d dealt r served unwritten given old_err new_err status line;
       }),
     )
@@ -176,7 +178,7 @@ serves_session file reads before after s r d input given old_out new_out old_err
 -- no turns read no files
 pub no_files : {S : Type 0} (file : List ℕ → Option File) (reads : S → List ℕ → Bool → S → Type 0) (now : S)
     → AreFromSource file reads now [] now
-no_files file reads now = record { files = All-nil (IsFromSource file); in_order = refl }
+no_files file reads now = record { asked = All-nil HasFileAsked; files = All-nil (IsFromSource file); in_order = refl }
 
 -- files from one source are also files from another source that has the same ones under all names
 pub same_source : (later file : List ℕ → Option File) (asked : List (List ℕ × File)) → ((name : List ℕ) → later name ≡ file name)

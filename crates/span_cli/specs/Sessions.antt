@@ -4,7 +4,7 @@ use Rattle.std.specs.Prelude.{Option, Some, None, IfSome, Err}
 use Rattle.std.specs.Io.{StartsWith}
 use Rattle.desks.specs.Requests.{requests_in, whole_lines}
 use Rattle.session.specs.Answers.{is_stdin}
-use Rattle.session.specs.Conversations.{IsFromSource, Turn, files_of}
+use Rattle.session.specs.Conversations.{HasFileAsked, IsFromSource, Turn, files_of}
 use Rattle.sources.specs.Files.{File}
 use Rattle.sources.specs.declared.ReadFault.TheVariants as read
 
@@ -62,6 +62,7 @@ Ends Unwritten outside = outside.is_unwritten ≡ true
 pub record IsConversation (outside : Outside) (ending : Ending) : Type 0 where
   -- the requests are the first requests of the input, in order
   pub first : IfSome outside.input (λ bytes. (more : List (Option (List ℕ))) × (requests_in bytes ≡ requests_of outside.turns ++ more))
-  -- the files that the requests name are the files of the sources
+  -- the files that the requests name were read, and are the files of the sources
+  pub asked : All HasFileAsked outside.turns
   pub files : All (IsFromSource outside.file) (files_of outside.turns)
   pub ends : Ends ending outside

@@ -5,12 +5,12 @@ ghost use Rattle.span_csv.specs.declared.faults.PositionFault.TheVariants as pos
 ghost use Rattle.std.specs.Prelude.{◌≡◌};
 
 use std::alloc::{AllocError, AllocFailed};
-use std::error::Error;
 use std::fmt;
 use std::fmt::Display;
+use thiserror::Error;
 
 /// A reason to reject a parameter file.
-#[derive(Clone, Copy, Debug, Drop, PartialEq, Eq)]
+#[derive(Clone, Copy, Debug, Drop, PartialEq, Eq, Error)]
 pub enum ParamFault {
     /// P1: the first record is not a SET, or there is no record (`at` is then 0).
     NoSet { at: usize },
@@ -33,7 +33,7 @@ pub enum ParamFault {
 }
 
 /// A reason to reject a position file.
-#[derive(Clone, Copy, Debug, Drop, PartialEq, Eq)]
+#[derive(Clone, Copy, Debug, Drop, PartialEq, Eq, Error)]
 pub enum PositionFault {
     /// Q1: not three fields.
     FieldCount { at: usize },
@@ -50,7 +50,7 @@ pub enum PositionFault {
 }
 
 /// A reason to reject an order file.
-#[derive(Clone, Copy, Debug, Drop, PartialEq, Eq)]
+#[derive(Clone, Copy, Debug, Drop, PartialEq, Eq, Error)]
 pub enum OrderFault {
     /// O1: not four fields.
     FieldCount { at: usize },
@@ -89,8 +89,6 @@ impl Display for ParamFault {
     }
 }
 
-impl Error for ParamFault {}
-
 impl Display for PositionFault {
     ghost use Rattle.span_csv.specs.FaultTexts.{position_text};
     ghost use Rattle.std.specs.Prelude.{Some};
@@ -108,8 +106,6 @@ impl Display for PositionFault {
         }
     }
 }
-
-impl Error for PositionFault {}
 
 impl Display for OrderFault {
     ghost use Rattle.span_csv.specs.FaultTexts.{order_text};
@@ -129,8 +125,6 @@ impl Display for OrderFault {
         }
     }
 }
-
-impl Error for OrderFault {}
 
 impl From<AllocError> for ParamFault {
     ghost from_gives = { λ _ e. e ≡ param.OutOfMemory };

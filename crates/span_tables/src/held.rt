@@ -153,8 +153,10 @@ pub struct HeldMemory {
 }
 
 impl HeldMemory {
-    /// Returns memory that no call has used yet. It allocates nothing.
-    pub fn new(alloc: Global) -> HeldMemory {
+    /// Returns memory that no call has used yet, in which nothing was found. It allocates nothing.
+    pub fn new(alloc: Global) -> HeldMemory
+        ensures { result.found.items ≡ [] }
+    {
         HeldMemory {
             found: Vec::new(alloc),
             lists: Vec::new(alloc),

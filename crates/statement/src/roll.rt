@@ -217,7 +217,7 @@ fn shelf_with<S: ShelfName, R: Wait + Drop>(
     history: History,
     set: &Arc<CompiledSet>,
 ) -> Result<(Publisher<S, R>, Reader<S>), SpanFault>
-    requires { history ≡ S.book }
+    requires { history.book ≡ S.book }
     ensures first { IfOk result (λ made. made.0 ≡ arc_value set.now ∷ []) }
     ensures fault { IfErr result (λ e. e ≡ fault.Memory) }
 {
@@ -299,7 +299,7 @@ fn roll_named<S: ShelfName + Send + Sync, R: Threads + Wait + Clock + Sync, G: G
     today: Accepted,
     next: &[u8],
 ) -> Result<Vec<u8>, SpanFault>
-    requires history { history ≡ S.book }
+    requires history { history.book ≡ S.book }
     requires bound { IsBound today }
     ensures text { IfOk result (λ text. Rolls next.now today.positions
         (statement_text (arc_value today.set).tables today.portfolios) text.items) }

@@ -18,12 +18,12 @@ use result_book::books::BookFault;
 use span_csv::faults::{OrderFault, ParamFault, PositionFault};
 use span_tables::name::Name;
 use std::alloc::AllocError;
-use std::error::Error;
 use std::fmt;
 use std::fmt::Display;
+use thiserror::Error;
 
 /// Why there is no statement.
-#[derive(Debug, Drop, PartialEq, Eq)]
+#[derive(Debug, Drop, PartialEq, Eq, Error)]
 pub enum SpanFault {
     /// The parameter file cannot be read.
     Params(ParamFault),
@@ -82,8 +82,6 @@ impl Display for SpanFault {
         }
     }
 }
-
-impl Error for SpanFault {}
 
 impl From<ParamFault> for SpanFault {
     ghost from_gives = { λ e answer. answer ≡ of_stage params.is_memory fault.Params e };

@@ -1,4 +1,7 @@
 //! The working memory of whole runs.
+ghost use Rattle.spread_stage.specs.Spreads.{unspread};
+ghost use Rattle.std.specs.Prelude.{◌≡◌, []};
+
 use scan_risk::Scan;
 use span_money::amounts::{Money, Units};
 use span_tables::held::HeldMemory;
@@ -31,7 +34,12 @@ pub struct RunMemory {
 
 impl RunMemory {
     /// Creates memory that no run has used yet. It allocates nothing.
-    pub fn new(alloc: Global) -> RunMemory {
+    pub fn new(alloc: Global) -> RunMemory
+        ensures held { result.held.found.items ≡ [] }
+        ensures months { result.months ≡ [] }
+        ensures tiers { result.tiers ≡ unspread [] }
+        ensures parts { result.parts.items ≡ [] }
+    {
         RunMemory {
             held: HeldMemory::new(alloc),
             months: Months::none(alloc),

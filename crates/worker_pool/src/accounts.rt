@@ -1,9 +1,9 @@
 //! The accounts of a batch: those that have no board yet, and the outcome of each.
 ghost use Rattle.std.specs.Arc.{arc_value};
-ghost use Rattle.std.specs.Prelude.{◌≡◌, IfOk, IfSome, Some, map, slice_get, slice_set};
+ghost use Rattle.std.specs.Prelude.{◌≡◌, ◌↔◌, IfOk, IfSome, IsTrue, Some, length, map, slice_get, slice_set};
 ghost use Rattle.worker_pool.specs.Batches.{AllFit, job_at, jobs_of};
 ghost use Rattle.worker_pool.specs.declared.outcomes.Outcome.TheVariants.{Margined, NoMemory};
-ghost use Rattle.worker_pool.specs.near.Places.{AreOutcomesOf};
+ghost use Rattle.worker_pool.specs.near.Places.{AreOutcomesOf, one_ended};
 
 use crate::laws::Batch;
 use crate::outcomes::Outcome;
@@ -117,13 +117,11 @@ pub(crate) struct Outcomes<B: Batch> {
 }
 
 impl<B: Batch> Model for Outcomes<B> {
-    ghost use Rattle.std.specs.Prelude.{List};
-    ghost use Rattle.worker_pool.specs.declared.outcomes.Outcome.{Outcome};
-    ghost use Rattle.worker_pool.specs.near.Places.{AreOutcomesOf};
+    ghost use Rattle.worker_pool.specs.near.Places.{AreOutcomesOf, OutcomesView};
 
-    ghost Value = { List Outcome };
+    ghost Value = { OutcomesView };
 
-    ghost view = { λ o. o.list.items };
+    ghost view = { λ o. record { list = o.list.items; left = o.left } };
 
     ghost invariant = { λ o. AreOutcomesOf B.jobs o.list.items };
 }
@@ -135,7 +133,10 @@ impl<B: Batch> Outcomes<B> {
         portfolios: &[Portfolio],
     ) -> Result<Outcomes<B>, AllocError>
         requires { B.jobs ≡ jobs_of (arc_value set.now) portfolios.now }
-        ensures { IfOk result (λ outcomes. outcomes ≡ map (λ p. NoMemory p.account) portfolios.now) }
+        ensures { IfOk result (λ outcomes. outcomes ≡ record {
+          list = map (λ p. NoMemory p.account) portfolios.now;
+          left = length portfolios.now;
+        }) }
     {
         Ok(Outcomes {
             list: all_without_memory(alloc, portfolios)?,
@@ -145,20 +146,22 @@ impl<B: Batch> Outcomes<B> {
     }
 
     /// Returns whether every account has ended.
-    pub(crate) fn is_done(&self) -> bool {
+    pub(crate) fn is_done(&self) -> bool
+        ensures { IsTrue result ↔ (self.now.left ≡ 0) }
+    {
         self.left == 0
     }
 
     /// Counts one more account as ended.
     pub(crate) fn count_ended(&mut self)
-        ensures { self.new ≡ self.old }
+        ensures { self.new ≡ one_ended self.old }
     {
         self.left = self.left.saturating_sub(1);
     }
 
     /// Stores the row of an account at the account's index.
     pub(crate) fn set(&mut self, row: RowOf<B>)
-        ensures { self.new ≡ slice_set self.old row.place (Margined row.row) }
+        ensures { self.new ≡ record self.old { list = slice_set self.old.list row.place (Margined row.row) } }
     {
         let RowOf {
             row,
@@ -170,7 +173,7 @@ impl<B: Batch> Outcomes<B> {
 
     /// Returns the outcomes, in account order.
     pub(crate) fn into_vec(self) -> Vec<Outcome>
-        ensures list { result.items ≡ self }
+        ensures list { result.items ≡ self.list }
         ensures of_jobs { AreOutcomesOf B.jobs result.items }
     {
         let Outcomes { list, .. } = self;

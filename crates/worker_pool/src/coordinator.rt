@@ -2,7 +2,7 @@
 ghost use Rattle.std.specs.Arc.{arc_value};
 ghost use Rattle.std.specs.Prelude.{◌≡◌, IfOk, IfSome, MatchOption, MatchResult, Some, slice_get, slice_set};
 ghost use Rattle.worker_pool.specs.declared.outcomes.Outcome.TheVariants.{Margined};
-ghost use Rattle.worker_pool.specs.near.Places.{AreOutcomesOf};
+ghost use Rattle.worker_pool.specs.near.Places.{AreOutcomesOf, one_ended};
 
 use crate::accounts::{Outcomes, RowOf, Waiting};
 use crate::ends::FinishedOf;
@@ -66,7 +66,7 @@ impl<'a, B: Batch, G: Gate> Coordinator<'a, B, G> {
 
     /// Returns the outcomes, in account order.
     pub(crate) fn into_outcomes(self) -> Vec<Outcome>
-        ensures list { result.items ≡ self.entry.outcomes }
+        ensures list { result.items ≡ self.entry.outcomes.list }
         ensures of_jobs { AreOutcomesOf B.jobs result.items }
     {
         let Coordinator { outcomes, .. } = self;
@@ -139,8 +139,10 @@ impl<'a, B: Batch, G: Gate> Coordinator<'a, B, G> {
     fn end_account(&mut self, went: Result<Option<RowOf<B>>, AllocError>)
         ensures { MatchResult went
             (λ r. MatchOption r (self.new.outcomes ≡ self.old.outcomes)
-            (λ row. self.new.outcomes ≡ slice_set self.old.outcomes row.place (Margined row.row)))
-            (λ _. self.new.outcomes ≡ self.old.outcomes) }
+            (λ row. self.new.outcomes ≡ one_ended (record self.old.outcomes {
+              list = slice_set self.old.outcomes.list row.place (Margined row.row);
+            })))
+            (λ _. self.new.outcomes ≡ one_ended self.old.outcomes) }
     {
         match went {
             Ok(None) => return,

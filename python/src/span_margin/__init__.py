@@ -8,12 +8,15 @@
     with span.Session("params.csv", "positions.csv") as desk:
         desk.try_order("RIVER-01", {"CLZ5": -2}).change
 
-Nothing is computed here: every figure is one that the program printed. Amounts are whole minor units of the currency of the parameter
-set; `amount.major(2)` is a Decimal in major units.
+Nothing is computed here: every figure is one that the program printed, and `bytes(statement)` is what it printed. Amounts are whole minor
+units of the currency of the parameter set; `amount.major()` is a Decimal in major units.
 """
 from span_margin._amounts import Amount, ExactAmount
-from span_margin._calls import check, explain, faults, margin, roll, whatif
+from span_margin._async_session import AsyncSession
+from span_margin._calls import Span, check, explain, faults, margin, roll, whatif
 from span_margin._errors import (
+    CurrencyError,
+    FileChangedError,
     FileError,
     OutOfMemoryError,
     ParametersError,
@@ -23,6 +26,7 @@ from span_margin._errors import (
     RollError,
     SessionEnded,
     SpanError,
+    TimedOut,
     UsageError,
 )
 from span_margin._lines import (
@@ -56,7 +60,7 @@ from span_margin._results import (
     TriedOrder,
     TriedOrders,
 )
-from span_margin._session import Session
+from span_margin._session import Left, Outcome, Session
 
 __version__ = "1.3.0"
 
@@ -65,21 +69,26 @@ __all__ = [
     "AccountMargin",
     "AccountTotal",
     "Amount",
+    "AsyncSession",
     "Change",
     "CommodityExplanation",
     "CommodityMargin",
     "Credit",
+    "CurrencyError",
     "ExactAmount",
     "Explanation",
     "Fault",
     "Faults",
+    "FileChangedError",
     "FileError",
     "Held",
     "Inter",
     "Intra",
+    "Left",
     "Month",
     "OrderTotal",
     "OutOfMemoryError",
+    "Outcome",
     "ParameterSet",
     "ParameterSetError",
     "ParametersError",
@@ -96,10 +105,12 @@ __all__ = [
     "SessionEnded",
     "SetCounts",
     "Short",
+    "Span",
     "SpanError",
     "Spot",
     "Statement",
     "Sums",
+    "TimedOut",
     "TriedOrder",
     "TriedOrders",
     "UsageError",

@@ -7,6 +7,7 @@ import sys
 from decimal import Decimal
 from typing import Any, Callable, Dict, Iterable, Iterator, List, NamedTuple, NoReturn, Optional, Sequence
 
+from span_margin import __version__
 from span_margin._amounts import Amount, ExactAmount
 from span_margin._errors import ProgramError
 from span_margin._lines import FORMS, Form, values_of
@@ -111,7 +112,7 @@ def table(rows: Sequence[Row]) -> str:
     widths = [max(map(len, column)) for column in zip(form.columns[:count], *cells)]
     lines = []
     for line in (form.columns[:count], *cells):
-        padded = [cell.rjust(width) if at in form.converters else cell.ljust(width) for at, (cell, width) in enumerate(zip(line, widths))]
+        padded = [cell.ljust(width) if kind is str else cell.rjust(width) for kind, cell, width in zip(form.kinds, line, widths)]
         lines.append("  ".join(padded).rstrip() + "\n")
     return "".join(lines)
 
@@ -130,11 +131,12 @@ def write(text: str) -> None:
 
 def main() -> None:
     parser = argparse.ArgumentParser(COMMAND, description=ABOUT, epilog=STATUSES, formatter_class=argparse.RawDescriptionHelpFormatter)
+    parser.add_argument("--version", action="version", version=f"span_margin {__version__}")
     parser.add_argument("format", choices=list(WRITERS))
     major_help = "print amounts in major units, with this many decimals: 2 if 100 cents are a dollar"
     parser.add_argument("--major", type=int, choices=range(10), metavar="DIGITS", help=major_help)
     only_help = "print only lines of this word, such as R; may be repeated"
-    parser.add_argument("--only", action="append", default=[], choices=list(FORMS), metavar="WORD", help=only_help)
+    parser.add_argument("--only", action="append", default=[], choices=list(filter(None, FORMS)), metavar="WORD", help=only_help)
     chosen = parser.parse_args()
     write(WRITERS[chosen.format](rows_of(read(), chosen.major, chosen.only)))
 

@@ -1,9 +1,10 @@
 """Errors: a fault line of the program and its parts, as an exception."""
+import errno
 import os
 import re
 import signal
 import stat
-from typing import Dict, Optional, Type
+from typing import Any, Dict, Optional, Tuple, Type
 
 _FAULT = re.compile(
     r"(?P<file>(?:next )?(?:parameters|positions|orders|request|book|workers)): (?P<code>[A-Z]\d+) (?P<name>\w+)"
@@ -12,6 +13,7 @@ _FAULT = re.compile(
 )
 _FIRST_PAIR = {"TRY": 3, "FILL": 2}
 LONGEST_FILE = 67108864  # bytes of a file that the program reads
+_OF_SYSTEM = ("errno", "strerror", "filename")  # what an OSError has outside of its `__dict__`
 
 
 class SpanError(Exception):
@@ -28,7 +30,7 @@ class SpanError(Exception):
     """
 
     def __init__(self, line: str, status: Optional[int] = None) -> None:
-        super().__init__(line, status)
+        Exception.__init__(self, line, status)  # and not OSError.__init__, to which a pair is errno and strerror
         self.line = line
         self.status = status
         self.file: Optional[str] = None
@@ -48,9 +50,32 @@ class SpanError(Exception):
     def __str__(self) -> str:
         return self.line
 
+    def __reduce__(self) -> Tuple[Any, ...]:
+        return _again, (type(self), self.args, self._state())
+
+    def _state(self) -> Dict[str, Any]:
+        """The attributes that a copy has."""
+        names = _OF_SYSTEM if isinstance(self, OSError) else ()
+        return {**vars(self), **{name: getattr(self, name) for name in names}}
+
+
+def _again(kind: Type[SpanError], args: Tuple[Any, ...], state: Dict[str, Any]) -> SpanError:
+    """An error that was pickled or copied. Nothing is found out again, such as why a file cannot be read."""
+    error: SpanError = (OSError if issubclass(kind, OSError) else Exception).__new__(kind)
+    error.args = args
+    for name, value in state.items():
+        setattr(error, name, value)
+    return error
+
 
 class UsageError(SpanError):
-    """Status 2: the program does not accept an argument, such as a number of workers over 16 or an account that is not a name."""
+    """Status 2: the program does not accept an argument, such as a number of workers over 16 or an account that is not a name.
+
+    `line` is all that the program printed. The text of the error is its first line.
+    """
+
+    def __str__(self) -> str:
+        return self.line.partition("\n")[0]
 
 
 class ParametersError(SpanError):
@@ -61,21 +86,23 @@ class PositionsError(SpanError):
     """Status 4: the position file or the order file is rejected, or it lacks the account that was asked for."""
 
 
-class OutOfMemoryError(SpanError):
-    """Status 5: the program ran out of memory."""
+class OutOfMemoryError(SpanError, MemoryError):
+    """Status 5: the program ran out of memory. It is a MemoryError."""
 
 
-class FileError(SpanError):
-    """Status 6: a file cannot be read.
+class FileError(SpanError, OSError):
+    """Status 6: a file cannot be read. It is an OSError.
 
     filename  the name of the file
     reason    why the operating system cannot open it, such as "No such file or directory"; None if it can
+    errno, strerror    the number of the reason, such as errno.ENOENT, and the reason; None if there is no reason
     """
 
     def __init__(self, line: str, status: Optional[int] = None) -> None:
         super().__init__(line, status)
-        self.filename = line[len("file: ") :]
-        self.reason = why_not_readable(self.filename)
+        self.filename: str = line[len("file: ") :]
+        self.errno, self.strerror = why_not_readable(self.filename)  # type: ignore[assignment]
+        self.reason: Optional[str] = self.strerror
 
     def __str__(self) -> str:
         return f"{self.line}: {self.reason}" if self.reason else self.line
@@ -107,8 +134,9 @@ class RequestError(SpanError):
         return f"{self.line}: {fields[self.field - 1]}" if self.field and self.field <= len(fields) else self.line
 
 
-class SessionEnded(SpanError):
-    """The session has ended, or was closed; then `status` is None. `line` is what it printed on standard error, which may be nothing."""
+class SessionEnded(SpanError, ConnectionError):
+    """The session has ended, or was closed; then `status` is None. `line` is what it printed on standard error, which may be nothing. It
+    is a ConnectionError."""
 
     def __str__(self) -> str:
         if self.status is None:
@@ -118,6 +146,43 @@ class SessionEnded(SpanError):
 
 class ProgramError(SpanError):
     """There is no program, it has another version, a signal ended it, or this package cannot read what it printed."""
+
+
+class TimedOut(SpanError, TimeoutError):
+    """A call took longer than its timeout. The program of a command was killed. It is a TimeoutError.
+
+    request   the request of a session whose answer was not awaited; None for a command
+    sent      whether the program may have carried it out
+    """
+
+    def __init__(self, line: str, request: Optional[str] = None, sent: bool = True) -> None:
+        super().__init__(line)
+        self.request = request
+        self.sent = sent
+        self._left: Any = None  # what knows the outcome of a request
+
+    def outcome(self, timeout: Optional[float] = 0) -> Any:
+        """What became of a request of a session. None for a command, and for an error that was pickled or copied."""
+        return None if self._left is None else self._left.outcome(timeout)
+
+    def _state(self) -> Dict[str, Any]:
+        return {**super()._state(), "_left": None}
+
+
+class FileChangedError(SpanError):
+    """The parameter file was replaced while the program ran, so the currency of the result is not known.
+
+    filename   the name of the file
+    """
+
+    def __init__(self, filename: str) -> None:
+        super().__init__(f"{filename} was replaced while span read it")
+        self.args = (filename,)
+        self.filename = filename
+
+
+class CurrencyError(SpanError, TypeError):
+    """Amounts in two currencies were added, subtracted or compared. It is a TypeError."""
 
 
 _OF_STATUS: Dict[int, Type[SpanError]] = {
@@ -145,19 +210,21 @@ def number_of(digits: Optional[str]) -> Optional[int]:
     return None if digits is None else int(digits)
 
 
-def why_not_readable(name: str) -> Optional[str]:
-    """Why a file cannot be read, in the words of the operating system, or None if it can."""
+def why_not_readable(name: str) -> Tuple[Optional[int], Optional[str]]:
+    """Why a file cannot be read, as the number and the words of the operating system. Both are None if it can be read."""
     try:
         descriptor = os.open(name, os.O_RDONLY | os.O_NONBLOCK | os.O_CLOEXEC)
-    except (OSError, ValueError) as error:
-        return getattr(error, "strerror", None) or str(error)
+    except OSError as error:
+        return error.errno, error.strerror
+    except ValueError as error:
+        return errno.EINVAL, str(error)
     try:
         about = os.fstat(descriptor)
         if stat.S_ISDIR(about.st_mode):
-            return "Is a directory"
+            return errno.EISDIR, os.strerror(errno.EISDIR)
         if stat.S_ISREG(about.st_mode) and about.st_size > LONGEST_FILE:
-            return f"longer than {LONGEST_FILE} bytes"
-        return None
+            return errno.EFBIG, f"longer than {LONGEST_FILE} bytes"
+        return None, None
     finally:
         os.close(descriptor)
 

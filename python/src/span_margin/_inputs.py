@@ -1,12 +1,17 @@
 """Files for the program: a path as it is, and bytes or rows as a file in a private temporary directory."""
 import csv
-import io
 import os
+import re
+import secrets
+import shutil
+import stat
 import tempfile
 from types import TracebackType
-from typing import Any, Iterable, Iterator, List, Mapping, Optional, Sequence, SupportsBytes, Tuple, Type, Union
+from typing import Any, Iterable, Iterator, List, Mapping, Optional, Sequence, Sized, SupportsBytes, Tuple, Type, Union
 
-from span_margin._errors import FileError
+from span_margin._amounts import Money
+from span_margin._errors import FileChangedError, FileError
+from span_margin._program import Deadline
 
 Row = Union[Sequence[object], Mapping[str, object]]
 # What calls accept as a file: its path, its content, or its rows as tuples, dicts or a data frame.
@@ -15,15 +20,23 @@ Source = Union[str, "os.PathLike[str]", bytes, bytearray, memoryview, SupportsBy
 POSITION = ("account", "contract", "quantity")
 ORDER = ("order", "account", "contract", "quantity")
 PARAMETER: Tuple[str, ...] = ()  # records of parameters have no columns in common
+_CONTENT = re.compile(r'[^\r\n]*[\r\n]|"?[A-Z0-9_-]+"?(,"?[A-Z0-9_.-]*"?){2,}\Z')
+_PREFIX = 65536  # so many bytes of a parameter file are read here: the SET record is the first
+_SET = re.compile(r"SET,([A-Z0-9_-]{1,16}),[0-9]{1,18},([A-Z]{3})")
+_QUOTED = re.compile('[",\r\n]')
 _OWN_STREAMS = ("/dev/stdin", "/dev/fd/", "/proc/self/fd/")
 
 
 class Inputs:
     """The files of one call, or of one session. What is not a path is written into a private directory, which `close` removes."""
 
-    def __init__(self) -> None:
-        self._directory: Optional["tempfile.TemporaryDirectory[str]"] = None
-        self._count = 0
+    _directory: Optional[str] = None
+    _count = 0
+    _pid = 0
+
+    def __init__(self, deadline: Deadline = Deadline()) -> None:
+        self.deadline = deadline
+        self._pid = os.getpid()
 
     def __enter__(self) -> "Inputs":
         return self
@@ -31,23 +44,34 @@ class Inputs:
     def __exit__(self, kind: Optional[Type[BaseException]], error: Optional[BaseException], trace: Optional[TracebackType]) -> None:
         self.close()
 
+    def __del__(self) -> None:
+        if self._pid == os.getpid():  # and not in a child made by a fork
+            self.close()
+
     def close(self) -> None:
         """Removes the private directory."""
         if self._directory:
-            self._directory.cleanup()
+            shutil.rmtree(self._directory, ignore_errors=True)
             self._directory = None
 
     def place(self, name: str) -> str:
         """The path of a new file in the private directory, which only this user can read."""
         if self._directory is None:
-            self._directory = tempfile.TemporaryDirectory(prefix="span-")
+            # (named before it is made, so that it is removed even if a signal handler raises between the two)
+            self._directory = os.path.join(tempfile.gettempdir(), f"span-{secrets.token_hex(8)}")
+            os.mkdir(self._directory, 0o700)
         self._count += 1
-        return os.path.join(self._directory.name, f"{self._count}-{name}")
+        return os.path.join(self._directory, f"{self._count}-{name}")
 
     def file(self, source: Source, columns: Sequence[str], name: str) -> str:
-        """The path of a file with this source. If it is in the private directory, `name` is the end of its name."""
+        """The path of a file with this source. If it is in the private directory, `name` is the end of its name.
+
+        Raises ValueError for content that is given as a str.
+        """
         if isinstance(source, (str, os.PathLike)):
             path = os.fspath(source)
+            if isinstance(source, str) and _is_content(source):
+                raise ValueError(f"a str is the path of a file, and {source[:40]!r} is content: pass bytes, as text.encode(), or a path")
             return path if _can_be_named(path) else self.copy(path, name)
         if isinstance(source, (bytes, bytearray, memoryview, SupportsBytes)):
             return self.write(bytes(source), name)
@@ -55,7 +79,7 @@ class Inputs:
 
     def copy(self, path: str, name: str) -> str:
         """The path of a new file with the content of a file. Raises FileError if it cannot be read."""
-        return self.write(_read(path), name)
+        return self.write(self.deadline.call(_read, path), name)
 
     def write(self, content: bytes, name: str) -> str:
         """The path of a new file with this content."""
@@ -63,6 +87,11 @@ class Inputs:
         with open(path, "wb") as file:
             file.write(content)
         return path
+
+
+def _is_content(text: str) -> bool:
+    """Whether a text is the content of a file rather than its path: it looks like lines of CSV, and there is no such file."""
+    return bool(_CONTENT.match(text)) and not os.path.lexists(text)
 
 
 def _can_be_named(path: str) -> bool:
@@ -83,14 +112,95 @@ def _read(path: str) -> bytes:
         raise FileError(f"file: {path}") from error
 
 
+def set_record(path: str) -> Optional[Tuple[str, str]]:
+    """The id and the currency of the first record of a regular file, or None. It never waits for a pipe, and opens none."""
+    try:
+        if not stat.S_ISREG(os.stat(path).st_mode):
+            return None
+        with open(os.open(path, os.O_RDONLY | os.O_NONBLOCK | os.O_CLOEXEC), "rb") as file:
+            prefix = file.read(_PREFIX) if stat.S_ISREG(os.fstat(file.fileno()).st_mode) else b""
+    except (OSError, ValueError):
+        return None
+    begin = prefix[3:] if prefix.startswith(b"\xef\xbb\xbf") else prefix
+    line, end, _ = begin.lstrip(b"\r\n").replace(b"\r", b"\n").partition(b"\n")
+    if not end and len(prefix) == _PREFIX:
+        return None
+    try:
+        fields = next(csv.reader([line.decode("ascii"), "?"]))  # (which ends no record, unless a quote is open)
+    except (ValueError, StopIteration, csv.Error):
+        return None
+    found = _SET.fullmatch(",".join(fields))
+    return (found[1], found[2]) if found and len(fields) == 4 else None
+
+
+class SetFile:
+    """A parameter file, and the id and the currency of its SET record before the program read it; None if it is not a regular file."""
+
+    def __init__(self, path: str, digits: Optional[int], deadline: Deadline) -> None:
+        self.path, self._digits, self._deadline = path, digits, deadline
+        self._before = deadline.call(set_record, path)
+
+    @property
+    def set_id(self) -> Optional[str]:
+        return self._before and self._before[0]
+
+    @property
+    def money(self) -> Money:
+        """The currency of amounts under the set."""
+        return Money(self._before and self._before[1], self._digits)
+
+    def has_still(self, set_id: Optional[str]) -> bool:
+        """Whether the set in the file is the one that it was before, with this id, which the program printed. None: it printed none."""
+        if self._before is None:
+            return True
+        now = set_record(self.path) or self._before
+        return now == self._before and set_id in (None, now[0])
+
+    def check(self, set_id: Optional[str]) -> None:
+        """Raises FileChangedError if the file does not have this set any more, or did not have it before."""
+        if not self._deadline.call(lambda _: self.has_still(set_id), self.path):
+            raise FileChangedError(self.path)
+
+
+def replace(path: Union[str, "os.PathLike[str]"], content: bytes) -> None:
+    """Writes a file under another name in the same directory, and then renames it."""
+    target = os.path.realpath(path)
+    if os.path.exists(target) and not os.path.isfile(target):
+        raise ValueError(f"{os.fspath(path)} exists, and is not a file")
+    draft = os.path.join(os.path.dirname(target), f".span-{secrets.token_hex(8)}")
+    try:
+        with open(draft, "xb") as file:
+            file.write(content)
+            file.flush()
+            os.fsync(file.fileno())
+        os.replace(draft, target)
+    except BaseException:
+        if os.path.exists(draft):
+            os.remove(draft)
+        raise
+
+
+def need_legs(legs: Sized) -> None:
+    """Raises ValueError if an order or a fill has no legs."""
+    if not legs:
+        raise ValueError("an order needs at least one leg, such as {\"CLZ5\": 1}")
+
+
 def csv_of(rows: Any, columns: Sequence[str]) -> bytes:
     """Rows as a CSV file. Only the columns are checked here. The program checks their content."""
-    text = io.StringIO(newline="")
-    # With both characters in the line end, every version of Python quotes a field that contains one of them.
-    writer = csv.writer(text, lineterminator="\r\n")
-    for row in _fields(rows, columns):
-        writer.writerow(row or ("",))
-    return text.getvalue().encode("utf-8", "surrogatepass")
+    lines = []
+    for number, row in enumerate(_fields(rows, columns), 1):
+        if not row and columns is ORDER:
+            raise ValueError(f"order row {number} is empty")
+        # (a record with one empty field is not an empty line)
+        lines.append(",".join(map(_field, row)) or '""')
+    return "".join(f"{line}\r\n" for line in lines).encode("utf-8", "surrogatepass")
+
+
+def _field(value: object) -> str:
+    """A field of a CSV file. (The module csv of Python 3.10 writes no NUL, which the program rejects like other bytes.)"""
+    text = "" if value is None else str(value)
+    return '"' + text.replace('"', '""') + '"' if _QUOTED.search(text) else text
 
 
 def _fields(rows: Any, columns: Sequence[str]) -> Iterator[Sequence[object]]:

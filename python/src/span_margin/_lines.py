@@ -3,13 +3,76 @@
 Amounts are in minor units of the currency of the parameter set, quantities in contracts, deltas and spreads in deltas. Months are six
 digits, yyyymm. In every line of a statement, explanation or order, `set` is the id of the parameter set under which it was computed.
 """
-from dataclasses import dataclass, fields
+import hashlib
+import json
+import os
+from dataclasses import dataclass
 from decimal import Decimal
-from typing import Any, Callable, Dict, List, NamedTuple, Optional, Tuple, Type, TypeVar, get_type_hints
+from functools import lru_cache
+from typing import Any, ClassVar, Dict, List, Mapping, NamedTuple, Optional, Tuple, Type, Union, get_type_hints
 
-from span_margin._amounts import Amount, ExactAmount
+from span_margin._amounts import UNKNOWN, Amount, ExactAmount, Money
 from span_margin._errors import ProgramError, match_fault
-Whole = TypeVar("Whole", bound="Line")
+from span_margin._frames import frame_of_lines, frame_of_rows
+from span_margin._inputs import replace
+from span_margin._program import text_of
+
+
+class Printed:
+    """What the program printed, without a change: `bytes(result)`."""
+
+    _kinds: ClassVar[Mapping[str, str]]  # the kinds of data frames, the default first, and the words of their lines
+    _money: Money = UNKNOWN
+
+    def __bytes__(self) -> bytes:
+        raise NotImplementedError
+
+    @property
+    def text(self) -> str:
+        """What the program printed, as text."""
+        return text_of(bytes(self))
+
+    @property
+    def sha256(self) -> str:
+        """The SHA-256 checksum of what the program printed, in hexadecimal digits, as `sha256sum` prints it."""
+        return hashlib.sha256(bytes(self)).hexdigest()
+
+    def write(self, path: Union[str, "os.PathLike[str]"]) -> None:
+        """Writes what the program printed to a file, which gets its name only when it is complete and on the disk."""
+        replace(path, bytes(self))
+
+    def to_dicts(self) -> List[Dict[str, Any]]:
+        """A dict for each item, with its parts as dicts inside. Whole numbers are int, and numbers with fractions Decimal."""
+        raise NotImplementedError
+
+    def to_json(self) -> str:
+        """The dicts as JSON text. Numbers with fractions are strings, so that no digit is lost."""
+        return json.dumps(self.to_dicts(), default=str)
+
+    def to_pandas(self, of: Optional[str] = None) -> Any:
+        """A pandas data frame with a row for each line of one kind. The page PYTHON.md lists the kinds.
+
+        Raises ValueError if there is no such kind, and ImportError if pandas is not installed.
+        """
+        kind = next(iter(self._kinds)) if of is None else of
+        if kind not in self._kinds:
+            raise ValueError(f"unknown kind {kind}; the kinds are {', '.join(self._kinds)}")
+        return self._frame(self._kinds[kind])
+
+    def _frame(self, word: str) -> Any:
+        """A data frame of the lines of one word."""
+        form, lines = FORMS[word], self._lines_of(word)
+        kinds = [kind for _, kind in _classes(word, self._money)]
+        try:
+            return frame_of_lines(form.columns, kinds, lines, bool(word))
+        except (ValueError, ArithmeticError):  # what only Python reads exactly, or an unreadable line
+            rows = (values_of(text_of(line), self._money, None if word else "")[1] for line in lines)
+            return frame_of_rows(form.columns, kinds, rows)
+
+    def _lines_of(self, word: str) -> List[bytes]:
+        """The lines of one word, without their ends."""
+        front = f"{word},".encode() if word else b""
+        return [line for line in bytes(self).split(b"\n")[:-1] if line.startswith(front)]
 
 
 @dataclass(frozen=True)
@@ -18,15 +81,27 @@ class Line:
 
     def to_dict(self) -> Dict[str, Any]:
         """The fields by their names. Objects in fields are dicts too, and tuples lists."""
-        return {field.name: _plain(getattr(self, field.name)) for field in fields(self)}
+        values = [(name, getattr(self, name)) for name in self.__dataclass_fields__]
+        return {name: _plain(value) if isinstance(value, (Line, tuple)) else value for name, value in values}
+
+
+@dataclass(frozen=True)
+class OneLine(Printed, Line):
+    """A line that is a result by itself: a table with one row."""
+
+    def __bytes__(self) -> bytes:
+        (word,) = self._kinds.values()
+        cells = (getattr(self, column) for column in FORMS[word].columns)
+        return (",".join((word, *(str(cell) for cell in cells if cell is not None))) + "\n").encode()
+
+    def to_dicts(self) -> List[Dict[str, Any]]:
+        return [self.to_dict()]
 
 
 def _plain(value: Any) -> Any:
     if isinstance(value, Line):
         return value.to_dict()
-    if isinstance(value, tuple):
-        return [_plain(it) for it in value]
-    return value
+    return [_plain(it) for it in value] if isinstance(value, tuple) else value
 
 
 @dataclass(frozen=True)
@@ -53,7 +128,7 @@ class CommodityMargin(Line):
 
 
 @dataclass(frozen=True)
-class AccountTotal(Line):
+class AccountTotal(OneLine):
     """A T line: the total of an account. Under a set of version 1, value, due and excess are None.
 
     total    the sum of the requirements
@@ -68,6 +143,7 @@ class AccountTotal(Line):
     value: Optional[Amount] = None
     due: Optional[Amount] = None
     excess: Optional[Amount] = None
+    _kinds = {"accounts": "T"}
 
 
 @dataclass(frozen=True)
@@ -246,7 +322,7 @@ class Fault(Line):
 
 
 @dataclass(frozen=True)
-class SetCounts(Line):
+class SetCounts(OneLine):
     """An OK line: an accepted parameter set, and how many records of each kind it has."""
 
     set: str
@@ -256,46 +332,25 @@ class SetCounts(Line):
     intras: int
     spots: int
     inters: int
-
-
-_CONVERTERS: Dict[Any, Callable[[str], Any]] = {
-    int: int,
-    Decimal: Decimal,
-    Amount: Amount,
-    Optional[Amount]: Amount,
-    ExactAmount: ExactAmount,
-}
+    _kinds = {"sets": "OK"}
 
 
 class Form(NamedTuple):
-    """How the lines of one word become objects: the names of the fields, the converters of the fields that are not text (by their
-    index), and the least number of fields."""
+    """How the lines of one word become objects: the names and the classes of the fields, and the least number of fields."""
 
     make: Type[Line]
     columns: Tuple[str, ...]
-    converters: Dict[int, Callable[[str], Any]]
+    kinds: Tuple[Type[Any], ...]
     least: int
 
 
-def columns_of(make: Type[Line]) -> Tuple[str, ...]:
-    """The columns of a table of such lines. Each sum of a SUMS line has its own column."""
-    names = tuple(field.name for field in fields(make))
-    return (*names[:-1], *(f"sum_{number}" for number in range(1, 17))) if make is Sums else names
-
-
-def cells_of(line: Line, columns: Tuple[str, ...]) -> List[Any]:
-    """The cells of a line in these columns."""
-    if isinstance(line, Sums):
-        return [line.account, line.set, line.commodity, *line.sums]
-    return [getattr(line, column) for column in columns]
-
-
 def _form(make: Type[Line]) -> Form:
-    hints = list(get_type_hints(make).values())
-    if make is Sums:
-        hints[-1:] = [Amount] * 16
-    least = sum(1 for hint in hints if hint != Optional[Amount])
-    return Form(make, columns_of(make), {at: _CONVERTERS[hint] for at, hint in enumerate(hints) if hint is not str}, least)
+    hints = get_type_hints(make)
+    names = tuple(make.__dataclass_fields__)
+    columns, kinds = names, tuple(Amount if hints[name] == Optional[Amount] else hints[name] for name in names)
+    if make is Sums:  # each sum has its own column
+        columns, kinds = (*names[:-1], *(f"sum_{number}" for number in range(1, 17))), (*kinds[:-1], *[Amount] * 16)
+    return Form(make, columns, kinds, len(columns) - sum(hints[name] == Optional[Amount] for name in names))
 
 
 FORMS: Dict[str, Form] = {
@@ -313,57 +368,60 @@ FORMS: Dict[str, Form] = {
     "CHANGE": _form(Change),
     "ORDER": _form(OrderTotal),
     "OK": _form(SetCounts),
+    "": _form(Position),  # records of positions have no word
 }
 
 
-def values_of(line: str) -> Tuple[Form, List[Any]]:
-    """The form of a line, and the values of its fields after the word. Raises ProgramError if the program prints no such line."""
-    word, *values = line.split(",")
+@lru_cache(maxsize=None)
+def _classes(word: str, money: Money) -> Tuple[Tuple[int, Type[Any]], ...]:
+    """The index and the class of each field. Amounts have the class of the currency."""
+    own: Dict[Type[Any], Type[Any]] = {Amount: money.amount, ExactAmount: money.exact}
+    return tuple((at, own.get(kind, kind)) for at, kind in enumerate(FORMS[word].kinds))
+
+
+@lru_cache(maxsize=None)
+def _converters(word: str, money: Money) -> Tuple[Tuple[int, Type[Any]], ...]:
+    return tuple((at, kind) for at, kind in _classes(word, money) if kind is not str)
+
+
+def values_of(line: str, money: Money = UNKNOWN, word: Optional[str] = None) -> Tuple[Form, List[Any]]:
+    """The form of a line, and the values of its fields after the word. `word` is "" for a record of positions, which has none.
+
+    Raises ProgramError if the program prints no such line.
+    """
+    values: List[Any] = line.split(",")
+    if word is None:
+        word = values.pop(0) or "no word"
     form, count = FORMS.get(word), len(values)
-    if form is None or not form.least <= count <= len(form.columns):
-        raise _unknown(line)
+    if form is None or count not in (form.least, len(form.columns)):
+        raise unreadable(line)
     try:
-        for at, convert in form.converters.items():
+        for at, convert in _converters(word, money):
             if at < count:
                 values[at] = convert(values[at])
     except (ValueError, ArithmeticError):
-        raise _unknown(line) from None
+        raise unreadable(line) from None
     return form, values
 
 
-def _unknown(line: str) -> ProgramError:
-    return ProgramError(f"this package does not know this line of span: {line}")
+def unreadable(line: str) -> ProgramError:
+    """The error of a line that the program does not print."""
+    return ProgramError(f"this package does not know this line of span: {line[:200]}")
 
 
-def object_of(line: str) -> Line:
+def object_of(line: str, money: Money = UNKNOWN, word: Optional[str] = None) -> Any:
     """The object of one line. Raises ProgramError if the program prints no such line."""
-    form, values = values_of(line)
+    form, values = values_of(line, money, word)
     if form.make is Sums:
-        return Sums(values[0], values[1], values[2], tuple(values[3:]))
-    return _made(form.make, form, values, {})
-
-
-def whole_of(make: Type[Whole], line: str, **parts: Any) -> Whole:
-    """An object with the fields of a line, and with the parts that belong to it."""
-    return _made(make, *values_of(line), parts)
-
-
-def _made(make: Type[Whole], form: Form, values: List[Any], parts: Dict[str, Any]) -> Whole:
-    """Makes an object without `__init__`, which is slow for frozen classes. Fields that the line lacks have their defaults."""
-    made = object.__new__(make)
-    made.__dict__.update(zip(form.columns, values), **parts)
+        values[3:] = [tuple(values[3:])]
+    made = object.__new__(form.make)  # (`__init__` is slow for frozen classes; fields that the line lacks have their defaults)
+    object.__setattr__(made, "__dict__", dict(zip(form.make.__dataclass_fields__, values)))
     return made
-
-
-def position_of(line: str) -> Position:
-    """The position of a record."""
-    account, contract, quantity = line.split(",")
-    return Position(account, contract, int(quantity))
 
 
 def fault_of(line: str) -> Fault:
     """The fault of a fault line. Raises ProgramError for another line."""
     found = match_fault(line)
     if not found or not found["record"]:
-        raise ProgramError(f"this package does not know this fault line: {line}")
+        raise ProgramError(f"this package does not know this fault line: {line[:200]}")
     return Fault(line, found["file"], found["code"], found["name"], int(found["record"]), found["account"])

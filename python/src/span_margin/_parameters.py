@@ -1,6 +1,5 @@
 """Parameter sets made of the rows of tables: the file that the program reads, and the row from which each fault of it comes."""
 import os
-import secrets
 from collections import abc
 from dataclasses import dataclass
 from typing import Any, Dict, Iterable, List, Mapping, NamedTuple, Optional, Protocol, Sequence, Set, Tuple, Union
@@ -9,6 +8,7 @@ from span_margin._calls import faults
 from span_margin._columns import LEGS, SET, Reading, Round, Table, leg_columns, tables_of
 from span_margin._errors import ParametersError
 from span_margin._lines import Fault
+from span_margin._inputs import replace
 
 # The column that a rule is about. C7, C8, and C2 in an INTER record are about a leg, C9 is about all legs.
 _OF_RULE = {
@@ -185,7 +185,7 @@ class ParameterSet:
 
         The file gets its name only when it is complete.
         """
-        _replace(path, self._checked())
+        replace(path, self._checked())
 
     def _add(self, table: str, rows: Any, source: Optional[str], reading: Reading) -> None:
         """Adds the rows of a call, or none of them."""
@@ -303,24 +303,6 @@ def _quoted(text: str) -> str:
     if not any(character in text for character in ',"\r\n'):
         return text
     return '"' + text.replace('"', '""') + '"'
-
-
-def _replace(path: Union[str, "os.PathLike[str]"], content: bytes) -> None:
-    """Writes a file under another name in the same directory, and then renames it."""
-    target = os.path.realpath(path)
-    if os.path.exists(target) and not os.path.isfile(target):
-        raise ValueError(f"{os.fspath(path)} exists, and is not a file")
-    draft = os.path.join(os.path.dirname(target), f".params-{secrets.token_hex(8)}")
-    try:
-        with open(draft, "xb") as file:
-            file.write(content)
-            file.flush()
-            os.fsync(file.fileno())
-        os.replace(draft, target)
-    except BaseException:
-        if os.path.exists(draft):
-            os.remove(draft)
-        raise
 
 
 # --- From a fault to a column ---

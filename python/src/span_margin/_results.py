@@ -1,11 +1,13 @@
-"""What calls return: objects for the lines that the program prints, in their order."""
-import json
-from dataclasses import dataclass, field
+"""What calls return: the bytes that the program printed, and objects for their lines, which are made when they are asked for."""
+from dataclasses import FrozenInstanceError, dataclass, fields
 from functools import cached_property
-from importlib import import_module
-from typing import Any, Dict, Generic, Iterable, Iterator, List, Mapping, Optional, Sequence, Tuple, Type, TypeVar, cast
+from typing import (
+    Any, Callable, Dict, Generic, Iterator, List, NoReturn, Optional, Sequence, Tuple, Type, TypeVar, Union, cast, overload,
+)
 
+from span_margin._amounts import UNKNOWN, Money
 from span_margin._errors import ProgramError
+from span_margin._frames import frame_of_rows
 from span_margin._lines import (
     AccountTotal,
     Change,
@@ -19,155 +21,259 @@ from span_margin._lines import (
     Month,
     OrderTotal,
     Position,
+    Printed,
     Scan,
     SetCounts,
     Short,
     Spot,
     Sums,
-    cells_of,
-    columns_of,
     fault_of,
     object_of,
-    position_of,
-    whole_of,
 )
+from span_margin._program import text_of
 
-Item = TypeVar("Item", bound=Line)
-Lines = Sequence[str]
+Item = TypeVar("Item")
+Kind = TypeVar("Kind")
+Reason = TypeVar("Reason", bound=Line)
+_STATEMENT = {"commodities": "R", "accounts": "T"}
+_EXPLANATION = {
+    **_STATEMENT,
+    "held": "HELD",
+    "sums": "SUMS",
+    "scan": "SCAN",
+    "months": "MONTH",
+    "intras": "INTRA",
+    "spots": "SPOT",
+    "inters": "INTER",
+    "credit": "CREDIT",
+    "short": "SHORT",
+}
+_ORDERS = {"orders": "ORDER", "changes": "CHANGE"}
 
 
-class Items(Generic[Item]):
-    """A container of items. Iteration returns them in the order of the program."""
+class Result(Printed, Generic[Item]):
+    """The bytes that the program printed, as items in its order. Results are equal if their bytes are, and cannot be changed.
 
-    @property
+    `len` and iteration are about items, and `result[0]` is the first one. If items have names, `result["NAME"]` is the item with a name,
+    and `keys`, `items`, `get` and `in` work as in a dict. A line becomes an object when it is asked for. If it is not a line of the
+    program, that raises ProgramError.
+    """
+
+    _key: Optional[str] = None  # the attribute of items that is their name
+
+    def __init__(self, printed: bytes, money: Money = UNKNOWN, set_id: Optional[str] = None) -> None:
+        own = self.__dict__
+        own["_printed"], own["_money"] = printed, money
+        if set_id is not None:
+            own["_set_id"] = set_id
+
+    _printed: bytes
+    _set_id: Optional[str] = None
+
+    @cached_property
     def _items(self) -> Tuple[Item, ...]:
         raise NotImplementedError
 
-    def __iter__(self) -> Iterator[Item]:
-        return iter(self._items)
+    @property
+    def currency(self) -> Optional[str]:
+        """The currency of the amounts, such as "USD". None if it is unknown, as of a parameter file that is a pipe."""
+        return self._money.currency
 
-
-class Named(Items[Item]):
-    """Items with names: `result[name]` is the item of this name, or raises KeyError."""
-
-    _key: str  # the field that has the name
-
-    @cached_property
-    def _by_name(self) -> Dict[str, Item]:
-        return {getattr(item, self._key): item for item in self._items}
-
-    def __getitem__(self, name: str) -> Item:
-        return self._by_name[name]
-
-    def __contains__(self, name: object) -> bool:
-        return name in self._by_name
-
-
-class Table(Items[Item]):
-    """Items that can be converted to dicts, to JSON, and to a pandas data frame."""
-
-    _kinds: Mapping[str, Type[Line]]  # the lines that a data frame can have, the default first
+    def __bytes__(self) -> bytes:
+        return self._printed
 
     def __len__(self) -> int:
         return len(self._items)
 
+    def __iter__(self) -> Iterator[Item]:
+        return iter(self._items)
+
+    @cached_property
+    def _by_name(self) -> Dict[str, Optional[Item]]:
+        """The items by their names, and None for a name that two items have."""
+        named: Dict[str, Optional[Item]] = {}
+        for name, item in self.items():
+            named[name] = None if name in named else item
+        return named
+
+    @overload
+    def __getitem__(self, name: Union[str, int]) -> Item: ...
+
+    @overload
+    def __getitem__(self, name: slice) -> Tuple[Item, ...]: ...
+
+    def __getitem__(self, name: Union[str, int, slice]) -> Union[Item, Tuple[Item, ...]]:
+        if not isinstance(name, str):
+            return self._items[name]
+        item = self._by_name[name]
+        if item is None:
+            raise KeyError(f"several have the name {name}")
+        return item
+
+    def __contains__(self, name: object) -> bool:
+        return name in self._by_name if isinstance(name, str) and self._key else name in self._items
+
+    def get(self, name: str, default: Optional[Item] = None) -> Optional[Item]:
+        """The item with a name, or the default if there is none."""
+        return self[name] if name in self else default
+
+    def keys(self) -> List[str]:
+        """The names of the items."""
+        return [name for name, _ in self.items()]
+
+    def items(self) -> List[Tuple[str, Item]]:
+        """The names and the items."""
+        if self._key is None:
+            raise TypeError(f"the items of {type(self).__name__} have no names")
+        return [(getattr(item, self._key), item) for item in self._items]
+
     def to_dicts(self) -> List[Dict[str, Any]]:
-        """A dict for each item, with its parts as dicts inside. Whole numbers are int, and numbers with fractions Decimal."""
-        return [item.to_dict() for item in self._items]
+        return [cast(Any, item).to_dict() for item in self._items]
 
-    def to_json(self) -> str:
-        """The dicts as JSON text. Numbers with fractions are strings, so that no digit is lost."""
-        return json.dumps(self.to_dicts(), default=str)
+    def __eq__(self, other: object) -> bool:
+        if not isinstance(other, Result) or type(other) is not type(self):
+            return NotImplemented
+        return bytes(self) == bytes(other)
 
-    def to_pandas(self, of: Optional[str] = None) -> Any:
-        """A pandas data frame with a row for each line of one kind. The page PYTHON.md lists the kinds.
+    def __hash__(self) -> int:
+        return hash((type(self), bytes(self)))
 
-        Raises ValueError if there is no such kind, and ImportError if pandas is not installed.
-        """
-        kind = next(iter(self._kinds)) if of is None else of
-        if kind not in self._kinds:
-            raise ValueError(f"unknown kind {kind}; the kinds are {', '.join(self._kinds)}")
-        pandas = import_module("pandas")
-        columns = columns_of(self._kinds[kind])
-        return pandas.DataFrame([cells_of(line, columns) for line in self._rows(kind)], columns=list(columns))
+    def __repr__(self) -> str:
+        printed = bytes(self)
+        last = text_of(printed[_last_line(printed) :].rstrip(b"\n"))
+        return f"<{type(self).__name__} of {_count(printed)} lines{last and ', the last '}{last}>"
 
-    def _rows(self, kind: str) -> Iterable[Line]:
-        """The lines of one kind."""
-        return self._items
+    def __reduce__(self) -> Tuple[Any, ...]:
+        return type(self), (self._printed, self._money, self._set_id)
+
+    def __setattr__(self, name: str, value: object) -> NoReturn:
+        raise FrozenInstanceError(f"cannot assign to field {name!r}")
+
+    def __delattr__(self, name: str) -> NoReturn:
+        raise FrozenInstanceError(f"cannot delete field {name!r}")
+
+    def _objects(self, printed: bytes) -> List[Any]:
+        """The objects of lines."""
+        return [object_of(line, self._money) for line in text_of(printed).split("\n")[:-1]]
+
+
+class OfSet(Result[Item]):
+    """A result under one parameter set."""
+
+    _set_at = 2  # the field of each line that has the id of the set
+
+    @property
+    def set(self) -> Optional[str]:
+        """The id of the parameter set. None if nothing was printed, and the parameter file was a pipe."""
+        first = self._printed[: self._printed.find(b"\n")]
+        return text_of(first).split(",")[self._set_at] if first else self._set_id
+
+
+class Whole(Result[Item]):
+    """The lines of one account or of one order. The fields of the last line are attributes of the result."""
+
+    _parts = "commodities"  # what `to_dict` calls the items
+
+    def __bool__(self) -> bool:
+        return True
+
+    @cached_property
+    def _last(self) -> Line:
+        return cast(Line, object_of(text_of(self._printed[_last_line(self._printed) : -1]), self._money))
+
+    @property
+    def _name(self) -> str:
+        """The name of the account or of the order."""
+        return text_of(self._printed[_last_line(self._printed) : -1].split(b",", 2)[1])
+
+    def to_dict(self) -> Dict[str, Any]:
+        """The fields by their names, with a list of the items as dicts."""
+        return {**self._last.to_dict(), self._parts: [cast(Any, item).to_dict() for item in self._items]}
+
+    def to_dicts(self) -> List[Dict[str, Any]]:
+        return [self.to_dict()]
+
+
+def _with_fields_of(make: Type[Line]) -> Callable[[Type[Kind]], Type[Kind]]:
+    """Makes the fields of the last line attributes of a result, which are read when they are asked for."""
+
+    def add(kind: Type[Kind]) -> Type[Kind]:
+        for field in fields(make):
+            setattr(kind, field.name, property(lambda self, name=field.name: getattr(self._last, name)))  # type: ignore[misc]
+        return kind
+
+    return add
 
 
 # --- Statements ---
 
 
-@dataclass(frozen=True)
-class AccountMargin(AccountTotal, Named[CommodityMargin]):
+@_with_fields_of(AccountTotal)
+class AccountMargin(Whole[CommodityMargin], AccountTotal):
     """The margin of an account: its total, and its requirement in each commodity. `margin["CL"]` is the requirement in CL."""
 
-    commodities: Tuple[CommodityMargin, ...] = ()
     _key = "commodity"
+    _kinds = _STATEMENT
 
-    @property
+    @cached_property
     def _items(self) -> Tuple[CommodityMargin, ...]:
-        return self.commodities
-
-
-@dataclass(frozen=True)
-class Statement(Table[AccountMargin], Named[AccountMargin]):
-    """The margins of accounts. `statement["RIVER-01"]` is one of them. `set` is the id of the parameter set, or None if it is unknown."""
-
-    set: Optional[str]
-    accounts: Tuple[AccountMargin, ...]
-    _key = "account"
-    _kinds = {"commodities": CommodityMargin, "accounts": AccountTotal}
+        return tuple(self._objects(self._printed[: _last_line(self._printed)]))
 
     @property
+    def commodities(self) -> Tuple[CommodityMargin, ...]:
+        """The requirement in each commodity."""
+        return self._items
+
+
+class Statement(OfSet[AccountMargin]):
+    """The margins of accounts. `statement["RIVER-01"]` is one of them."""
+
+    _key = "_name"
+    _kinds = _STATEMENT
+
+    @cached_property
     def _items(self) -> Tuple[AccountMargin, ...]:
-        return self.accounts
+        return tuple(AccountMargin(part, self._money) for part in _parts(self._printed, b"T,"))
 
-    def _rows(self, kind: str) -> Iterable[Line]:
-        if kind == "accounts":
-            return self.accounts
-        return (line for account in self.accounts for line in account.commodities)
+    @property
+    def accounts(self) -> Tuple[AccountMargin, ...]:
+        """The margin of each account."""
+        return self._items
 
 
-@dataclass(frozen=True)
-class Roll:
-    """The statements of the same positions under a parameter set and under the next one."""
+class Roll(Result[Statement]):
+    """The statements of the same positions under a parameter set, `today`, and under the next one, `next`."""
 
+    _key = "roll"
+    _kinds = _STATEMENT
     today: Statement
     next: Statement
 
+    def __init__(self, today: Statement, following: Statement) -> None:
+        vars(self).update(today=today, next=following, _money=today._money if today._money == following._money else UNKNOWN)
 
-def account_margin(lines: Lines) -> AccountMargin:
-    """The margin of an account from its R lines and its T line."""
-    commodities = tuple(cast(CommodityMargin, object_of(line)) for line in lines[:-1])
-    return whole_of(AccountMargin, lines[-1], commodities=commodities)
+    def __bytes__(self) -> bytes:
+        return bytes(self.today) + bytes(self.next)
 
+    def __reduce__(self) -> Tuple[Any, ...]:
+        return Roll, (self.today, self.next)
 
-def _by_account(lines: Lines) -> Iterator[List[str]]:
-    """The lines of each account, up to its T line."""
-    found: List[str] = []
-    for line in lines:
-        found.append(line)
-        if line.startswith("T,"):
-            yield found
-            found = []
-    if found:
-        raise ProgramError(f"span printed no T line after {found[-1]}")
+    @cached_property
+    def _items(self) -> Tuple[Statement, ...]:
+        return self.today, self.next
 
+    def items(self) -> List[Tuple[str, Statement]]:
+        return [("today", self.today), ("next", self.next)]
 
-def statement(lines: Lines, set_id: Optional[str] = None) -> Statement:
-    """A statement from its lines."""
-    accounts = tuple(account_margin(it) for it in _by_account(lines))
-    return Statement(accounts[0].set if accounts else set_id, accounts)
+    def to_dicts(self) -> List[Dict[str, Any]]:
+        """A dict for each statement: `roll`, which is "today" or "next", `set`, and `accounts`, a list of dicts."""
+        return [{"roll": name, "set": it.set, "accounts": it.to_dicts()} for name, it in self.items()]
 
-
-def roll(lines: Lines) -> Roll:
-    """The two statements of a roll. The lines of each are one half of the lines."""
-    accounts = tuple(account_margin(it) for it in _by_account(lines))
-    half = len(accounts) // 2
-    today, following = accounts[:half], accounts[half:]
-    return Roll(*(Statement(part[0].set if part else None, part) for part in (today, following)))
+    def _frame(self, word: str) -> Any:
+        """The lines of both statements. The column `roll` says of which each is."""
+        frame = super()._frame(word)
+        frame.insert(0, "roll", [name for name, it in self.items() for _ in it._lines_of(word)])
+        return frame
 
 
 # --- Explanations ---
@@ -192,69 +298,51 @@ class CommodityExplanation(Line):
     margin: CommodityMargin
 
 
-@dataclass(frozen=True)
-class AccountExplanation(AccountTotal, Named[CommodityExplanation]):
+@_with_fields_of(AccountTotal)
+class AccountExplanation(Whole[CommodityExplanation], AccountTotal):
     """The reasons for the margin of an account. `explanation["CL"]` has the reasons in CL."""
 
-    commodities: Tuple[CommodityExplanation, ...] = ()
     _key = "commodity"
+    _kinds = _EXPLANATION
+
+    @cached_property
+    def _items(self) -> Tuple[CommodityExplanation, ...]:
+        commodities: List[CommodityExplanation] = []
+        reasons: List[Line] = []
+        for line in self._objects(self._printed[: _last_line(self._printed)]):
+            if isinstance(line, CommodityMargin):
+                commodities.append(_commodity_explanation(line, reasons))
+                reasons = []
+            else:
+                reasons.append(line)
+        return tuple(commodities)
 
     @property
-    def _items(self) -> Tuple[CommodityExplanation, ...]:
-        return self.commodities
+    def commodities(self) -> Tuple[CommodityExplanation, ...]:
+        """The reasons in each commodity."""
+        return self._items
 
     @property
     def margin(self) -> AccountMargin:
         """The margin that is explained."""
-        commodities = tuple(commodity.margin for commodity in self.commodities)
-        return AccountMargin(self.account, self.set, self.total, self.value, self.due, self.excess, commodities)
+        lines = [*self._lines_of("R"), *self._lines_of("T"), b""]
+        return AccountMargin(b"\n".join(lines), self._money)
 
 
-@dataclass(frozen=True)
-class Explanation(Table[AccountExplanation], Named[AccountExplanation]):
+class Explanation(OfSet[AccountExplanation]):
     """The reasons for the margins of accounts. `explanation["RIVER-01"]` has the reasons of one account."""
 
-    set: Optional[str]
-    accounts: Tuple[AccountExplanation, ...]
-    _key = "account"
-    _kinds = {
-        "commodities": CommodityMargin,
-        "accounts": AccountTotal,
-        "held": Held,
-        "sums": Sums,
-        "scan": Scan,
-        "months": Month,
-        "intras": Intra,
-        "spots": Spot,
-        "inters": Inter,
-        "credit": Credit,
-        "short": Short,
-    }
+    _key = "_name"
+    _kinds = _EXPLANATION
+
+    @cached_property
+    def _items(self) -> Tuple[AccountExplanation, ...]:
+        return tuple(AccountExplanation(part, self._money) for part in _parts(self._printed, b"T,"))
 
     @property
-    def _items(self) -> Tuple[AccountExplanation, ...]:
-        return self.accounts
-
-    def _rows(self, kind: str) -> Iterable[Line]:
-        if kind == "accounts":
-            yield from self.accounts
-            return
-        field = "margin" if kind == "commodities" else kind
-        for account in self.accounts:
-            for commodity in account.commodities:
-                lines = getattr(commodity, field)
-                yield from lines if isinstance(lines, tuple) else (lines,)
-
-
-def account_explanation(lines: Lines) -> AccountExplanation:
-    """The explanation of an account from its lines."""
-    reasons = [object_of(line) for line in lines[:-1]]
-    commodities, begin = [], 0
-    for at, line in enumerate(reasons):
-        if isinstance(line, CommodityMargin):
-            commodities.append(_commodity_explanation(line, reasons[begin:at]))
-            begin = at + 1
-    return whole_of(AccountExplanation, lines[-1], commodities=tuple(commodities))
+    def accounts(self) -> Tuple[AccountExplanation, ...]:
+        """The reasons for the margin of each account."""
+        return self._items
 
 
 def _commodity_explanation(margin: CommodityMargin, reasons: Sequence[Line]) -> CommodityExplanation:
@@ -263,136 +351,238 @@ def _commodity_explanation(margin: CommodityMargin, reasons: Sequence[Line]) -> 
     for line in reasons:
         of.setdefault(type(line), []).append(line)
 
-    def all_of(kind: Type[Item]) -> Tuple[Item, ...]:
+    def all_of(kind: Type[Reason]) -> Tuple[Reason, ...]:
         return tuple(of.get(kind, ()))
+
+    def one_of(kind: Type[Reason]) -> Reason:
+        if len(of.get(kind, ())) != 1:
+            raise ProgramError(f"span did not print one {kind.__name__.upper()} line of {margin.account} in {margin.commodity}")
+        return cast(Reason, of[kind][0])
 
     return CommodityExplanation(
         margin.account,
         margin.set,
         margin.commodity,
         held=all_of(Held),
-        sums=of[Sums][0],
-        scan=of[Scan][0],
+        sums=one_of(Sums),
+        scan=one_of(Scan),
         months=all_of(Month),
         intras=all_of(Intra),
         spots=all_of(Spot),
         inters=all_of(Inter),
-        credit=of[Credit][0],
-        short=of[Short][0],
+        credit=one_of(Credit),
+        short=one_of(Short),
         margin=margin,
     )
-
-
-def explanation(lines: Lines) -> Explanation:
-    """An explanation of accounts from its lines."""
-    accounts = tuple(account_explanation(it) for it in _by_account(lines))
-    return Explanation(accounts[0].set if accounts else None, accounts)
 
 
 # --- Orders ---
 
 
-@dataclass(frozen=True)
-class TriedOrder(OrderTotal, Named[Change]):
+@_with_fields_of(OrderTotal)
+class TriedOrder(Whole[Change], OrderTotal):
     """What an order would do to the margin of its account. `tried["CL"]` is the change in CL, and raises KeyError if
     there is none."""
 
-    _change_lines: Tuple[str, ...] = field(default=(), repr=False)
     _key = "commodity"
+    _kinds = _ORDERS
+    _parts = "changes"
 
     @cached_property
-    def changes(self) -> Tuple[Change, ...]:
-        """The commodities whose requirement changes. Most callers need only the total, so the lines become objects only here."""
-        return tuple(cast(Change, object_of(line)) for line in self._change_lines)
+    def _items(self) -> Tuple[Change, ...]:
+        return tuple(self._objects(self._printed[: _last_line(self._printed)]))
 
     @property
-    def _items(self) -> Tuple[Change, ...]:
-        return self.changes
-
-    def to_dict(self) -> Dict[str, Any]:
-        own = {name: getattr(self, name) for name in columns_of(OrderTotal)}
-        return {**own, "changes": [change.to_dict() for change in self.changes]}
+    def changes(self) -> Tuple[Change, ...]:
+        """The commodities whose requirement changes."""
+        return self._items
 
 
-@dataclass(frozen=True)
-class TriedOrders(Table[TriedOrder], Named[TriedOrder]):
+class TriedOrders(OfSet[TriedOrder]):
     """What each order would do by itself. `tried["HEDGE"]` is the order HEDGE."""
 
-    orders: Tuple[TriedOrder, ...]
-    _key = "order"
-    _kinds = {"orders": OrderTotal, "changes": Change}
+    _key = "_name"
+    _kinds = _ORDERS
+    _set_at = 3
+
+    @cached_property
+    def _items(self) -> Tuple[TriedOrder, ...]:
+        return tuple(TriedOrder(part, self._money) for part in _parts(self._printed, b"ORDER,"))
 
     @property
-    def _items(self) -> Tuple[TriedOrder, ...]:
-        return self.orders
-
-    def _rows(self, kind: str) -> Iterable[Line]:
-        return self.orders if kind == "orders" else (change for order in self.orders for change in order.changes)
+    def orders(self) -> Tuple[TriedOrder, ...]:
+        """Each order."""
+        return self._items
 
 
-def tried_order(lines: Lines) -> TriedOrder:
-    """An evaluated order from its CHANGE lines and its ORDER line."""
-    return whole_of(TriedOrder, lines[-1], _change_lines=tuple(lines[:-1]))
+# --- Faults, positions ---
 
 
-def tried_orders(lines: Lines) -> TriedOrders:
-    """All evaluated orders from their lines."""
-    orders, begin = [], 0
-    for at, line in enumerate(lines):
-        if line.startswith("ORDER,"):
-            orders.append(tried_order(lines[begin : at + 1]))
-            begin = at + 1
-    return TriedOrders(tuple(orders))
-
-
-# --- Sets, faults, positions ---
-
-
-def set_counts(lines: Lines) -> SetCounts:
-    """The counts of an accepted set from its OK line."""
-    (line,) = lines
-    return cast(SetCounts, object_of(line))
-
-
-def account_total(lines: Lines) -> AccountTotal:
-    """The total of an account from its T line."""
-    (line,) = lines
-    return cast(AccountTotal, object_of(line))
-
-
-@dataclass(frozen=True)
-class Faults(Table[Fault]):
+class Faults(Result[Fault]):
     """All faults of the files, in the order of the program. It is false if there are none."""
 
-    faults: Tuple[Fault, ...]
-    _kinds = {"faults": Fault}
+    _kinds = {"faults": ""}
+
+    @cached_property
+    def _items(self) -> Tuple[Fault, ...]:
+        return tuple(fault_of(line) for line in self.text.split("\n")[:-1])
 
     @property
-    def _items(self) -> Tuple[Fault, ...]:
-        return self.faults
+    def faults(self) -> Tuple[Fault, ...]:
+        """Each fault."""
+        return self._items
+
+    def _frame(self, word: str) -> Any:
+        columns = [field.name for field in fields(Fault)]
+        kinds = [int if name == "record" else str for name in columns]
+        return frame_of_rows(columns, kinds, ([getattr(fault, name) for name in columns] for fault in self))
 
 
-def faults(lines: Lines) -> Faults:
-    """The faults of fault lines."""
-    return Faults(tuple(fault_of(line) for line in lines))
-
-
-@dataclass(frozen=True)
-class Positions(Table[Position]):
+class Positions(OfSet[Position]):
     """All positions of a session, under the set with the id `set`. `bytes(positions)` is a position file."""
 
-    set: str
-    positions: Tuple[Position, ...]
-    _kinds = {"positions": Position}
+    _kinds = {"positions": ""}
 
     @property
+    def set(self) -> Optional[str]:
+        return self._set_id
+
+    @cached_property
     def _items(self) -> Tuple[Position, ...]:
-        return self.positions
+        return tuple(object_of(line, word="") for line in self.text.split("\n")[:-1])
 
-    def __bytes__(self) -> bytes:
-        return "".join(f"{it.account},{it.contract},{it.quantity}\n" for it in self.positions).encode()
+    @property
+    def positions(self) -> Tuple[Position, ...]:
+        """Each position."""
+        return self._items
 
 
-def positions(lines: Lines, set_id: str) -> Positions:
+# --- From bytes ---
+
+
+def _count(printed: bytes) -> int:
+    return printed.count(b"\n")
+
+
+def _last_line(printed: bytes) -> int:
+    """Where the last line begins."""
+    return printed.rfind(b"\n", 0, -1) + 1
+
+
+def _parts(printed: bytes, last: bytes) -> Iterator[bytes]:
+    """The lines up to each line of the word `last`, which the last line has."""
+    begin = 0
+    while begin < len(printed):
+        at = begin if printed.startswith(last, begin) else printed.index(b"\n" + last, begin) + 1
+        end = printed.index(b"\n", at) + 1
+        yield printed[begin:end]
+        begin = end
+
+
+def _checked(printed: bytes, words: Sequence[bytes], last: bytes = b"") -> bytes:
+    """What the program printed, after a look at the words of its lines, and at the last line. Raises ProgramError if they are wrong.
+
+    Nothing else of the lines is read, since there may be millions of them.
+    """
+    known = sum(printed.startswith(word) + printed.count(b"\n" + word) for word in words)
+    if printed and not (printed.endswith(b"\n") and printed.startswith(last, _last_line(printed))):
+        raise ProgramError(f"what span printed is cut off: {text_of(printed[-200:])}")
+    if known != _count(printed):
+        wrong = next(line for line in printed.split(b"\n") if not line.startswith(tuple(words)))
+        raise ProgramError(f"this package does not know this line of span: {text_of(wrong[:200])}")
+    return printed
+
+
+def _words(kinds: Dict[str, str]) -> List[bytes]:
+    return [f"{word},".encode() for word in kinds.values()]
+
+
+_OF_STATEMENT, _OF_EXPLANATION, _OF_ORDERS = _words(_STATEMENT), _words(_EXPLANATION), _words(_ORDERS)
+
+
+def _one(printed: bytes, last: bytes) -> bytes:
+    """The lines of one account or one order."""
+    if not printed or printed.startswith(last) + printed.count(b"\n" + last) != 1:
+        raise ProgramError(f"span did not print one line of the word {text_of(last[:-1])}: {text_of(printed[-200:])}")
+    return printed
+
+
+def statement(printed: bytes, money: Money, set_id: Optional[str] = None) -> Statement:
+    """A statement from what the program printed. `set_id` is the id of the set if there are no accounts."""
+    return Statement(_checked(printed, _OF_STATEMENT, b"T,"), money, set_id)
+
+
+def account_margin(printed: bytes, money: Money) -> AccountMargin:
+    """The margin of one account."""
+    return AccountMargin(_one(_checked(printed, _OF_STATEMENT, b"T,"), b"T,"), money)
+
+
+def roll(printed: bytes, today: Money, following: Money, ids: Sequence[Optional[str]] = (None, None)) -> Roll:
+    """The two statements of a roll. Each has the lines of one half of the accounts. `ids` are the ids of the sets if there are none."""
+    accounts = [*_parts(_checked(printed, _OF_STATEMENT, b"T,"), b"T,")]
+    if len(accounts) % 2:
+        raise ProgramError("span printed a statement of a roll with more accounts than the other has")
+    half = len(b"".join(accounts[: len(accounts) // 2]))
+    return Roll(Statement(printed[:half], today, ids[0]), Statement(printed[half:], following, ids[1]))
+
+
+def explanation(printed: bytes, money: Money, set_id: Optional[str] = None) -> Explanation:
+    """An explanation of accounts."""
+    return Explanation(_checked(printed, _OF_EXPLANATION, b"T,"), money, set_id)
+
+
+def account_explanation(printed: bytes, money: Money) -> AccountExplanation:
+    """The explanation of one account."""
+    return AccountExplanation(_one(_checked(printed, _OF_EXPLANATION, b"T,"), b"T,"), money)
+
+
+def tried_order(printed: bytes, money: Money) -> TriedOrder:
+    """One evaluated order. This is short, since a session makes very many."""
+    last = printed.rfind(b"\n", 0, -1) + 1
+    changes = printed.startswith(b"CHANGE,") + printed.count(b"\nCHANGE,")
+    if not (printed.startswith(b"ORDER,", last) and printed.endswith(b"\n") and changes + 1 == printed.count(b"\n")):
+        raise ProgramError(f"span did not print one order: {text_of(printed[-200:])}")
+    return TriedOrder(printed, money)
+
+
+def tried_orders(printed: bytes, money: Money, set_id: Optional[str] = None) -> TriedOrders:
+    """All evaluated orders."""
+    return TriedOrders(_checked(printed, _OF_ORDERS, b"ORDER,"), money, set_id)
+
+
+def tried_orders_of(parts: Sequence[bytes], money: Money) -> TriedOrders:
+    """Evaluated orders, each from what the program printed for it."""
+    made = tried_orders(b"".join(parts), money)
+    for part in parts:
+        _one(part, b"ORDER,")
+    return made
+
+
+def _line(printed: bytes, money: Money = UNKNOWN) -> Any:
+    """The object of the only line that the program printed. Its bytes are the line."""
+    made = object_of(text_of(printed[:-1]), money)
+    if bytes(made) != printed:
+        raise ProgramError(f"this package does not know this line of span: {text_of(printed[:200])}")
+    return made
+
+
+def set_counts(printed: bytes) -> SetCounts:
+    """The counts of an accepted set from its OK line."""
+    return cast(SetCounts, _line(_one(_checked(printed, [b"OK,"]), b"OK,")))
+
+
+def account_total(printed: bytes, money: Money) -> AccountTotal:
+    """The total of an account from its T line."""
+    return cast(AccountTotal, _line(_one(_checked(printed, [b"T,"]), b"T,"), money))
+
+
+def faults(printed: bytes) -> Faults:
+    """The faults of fault lines."""
+    return Faults(_checked(printed, [b"parameters: ", b"positions: "]))
+
+
+def positions(printed: bytes, set_id: str) -> Positions:
     """The positions of position records."""
-    return Positions(set_id, tuple(position_of(line) for line in lines))
+    if printed and not printed.endswith(b"\n") or printed.count(b",") != 2 * _count(printed):
+        raise ProgramError(f"span did not print positions: {text_of(printed[-200:])}")
+    return Positions(printed, UNKNOWN, set_id)

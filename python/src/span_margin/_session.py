@@ -1,46 +1,198 @@
 """Sessions: one process of the program that keeps a parameter set and all positions, and answers requests about them."""
 import os
-import threading
-from operator import index
 from types import TracebackType
-from typing import Iterable, Iterator, List, Literal, Mapping, Optional, Sequence, Tuple, Type, Union, overload
+from typing import Any, Iterable, List, Literal, NamedTuple, NoReturn, Optional, Tuple, Type, TypeVar, Union, overload
 
-from span_margin import _program, _results
-from span_margin._channel import Answer, Channel
-from span_margin._errors import RequestError, SpanError, error_of_request
-from span_margin._inputs import PARAMETER, POSITION, Inputs, Source
+from span_margin import _program, _questions
+from span_margin._channel import SLICE, Channel
+from span_margin._errors import SessionEnded, SpanError, TimedOut
+from span_margin._inputs import PARAMETER, POSITION, Inputs, SetFile, Source
 from span_margin._lines import AccountTotal, SetCounts
-from span_margin._results import AccountExplanation, AccountMargin, Positions, Statement, TriedOrder
+from span_margin._program import Deadline
+from span_margin._questions import NAME, Legs, Question, Try
+from span_margin._results import AccountExplanation, AccountMargin, Positions, Statement, TriedOrder, TriedOrders
 
-Legs = Mapping[str, int]
-# An order to evaluate: its account, its legs, and a name if it has one.
-Try = Union[Tuple[str, Legs], Tuple[str, Legs, str]]
-
-NAME = "TRY"  # the name of an order that has none
-LONGEST_REQUEST = 4096  # bytes of a request without its line end
+Result = TypeVar("Result")
+NEVER = Deadline()
 
 
-class Session:
+class Outcome(NamedTuple):
+    """What became of a request whose caller did not get the answer.
+
+    state   accepted, refused, "not yet" (no answer has come), "not sent" (it was withdrawn, and is never sent), or unknown (the session
+            ended before the answer)
+    result  what the call would have returned, if a fill or a new parameter set was accepted
+    error   what the call would have raised, if the request was refused or the session ended
+    """
+
+    state: Literal["accepted", "refused", "not yet", "not sent", "unknown"]
+    result: Union[AccountTotal, SetCounts, None] = None
+    error: Optional[SpanError] = None
+
+
+class Left:
+    """A request whose caller did not get the answer, since it was interrupted or its time was up.
+
+    request  the request, such as `FILL,RIVER-01,CLX5,10`
+    sent     whether it was sent; otherwise it was withdrawn, and changes nothing
+    """
+
+    def __init__(self, question: Question[Any]) -> None:
+        self.of = question
+        self.request: str = "".join(question.request.lines[:1]).rstrip("\n")
+
+    @property
+    def sent(self) -> bool:
+        return self.of.request.sent
+
+    def outcome(self, timeout: Optional[float] = 0) -> Outcome:
+        """What became of the request. Waits up to `timeout` seconds for its answer; None waits until it is there."""
+        request = self.of.request
+        if not request.sent:
+            return Outcome("not sent")
+        if not request.wait(Deadline(timeout), SLICE):
+            return Outcome("not yet")
+        if request.end:
+            return Outcome("unknown", error=request.end.of_call())
+        if not self.of.changes:
+            return Outcome("refused" if request.refused else "accepted")
+        try:
+            told = self.of.told()
+        except SpanError as error:  # the answer cannot be read
+            return Outcome("accepted", error=error)
+        return Outcome("refused", error=told) if isinstance(told, SpanError) else Outcome("accepted", told)
+
+    def __repr__(self) -> str:
+        return f"<{self.request}: {self.outcome().state}>"
+
+
+class Desk:
+    """What the two kinds of sessions share: the channel, the time that a call has, and the changes that were left."""
+
+    def __init__(
+        self, params: Source, positions: Source, *, workers: int = 1, timeout: Optional[float] = None,
+        program: Union[str, "os.PathLike[str]", None] = None, digits: Optional[int] = None,
+    ) -> None:
+        Deadline(timeout)
+        self._arguments = (params, positions, workers, program)
+        self._timeout, self._digits = timeout, digits
+        self._left: List[Left] = []
+        self._channel: Optional[Channel] = None
+        self._opening: Optional[Question[SetCounts]] = None
+
+    def _prepare(self, deadline: Deadline) -> Tuple[Channel, Question[SetCounts]]:
+        """The channel, which is not started yet, and the question of the opening."""
+        params, positions, workers, program = self._arguments
+        inputs = Inputs(deadline)
+        try:
+            files = [inputs.file(params, PARAMETER, "params.csv"), inputs.file(positions, POSITION, "positions.csv")]
+            words = ["session", f"--workers={workers}", "--", *files]
+            command = _program.command(*words, least=_program.SESSIONS, program=program, deadline=deadline)
+            self._opening = _questions.opened(SetFile(files[0], self._digits, deadline), inputs)
+            self._channel = Channel(command, self._opening.request)
+            return self._channel, self._opening
+        except BaseException:
+            inputs.close()
+            raise
+
+    def _abandon(self) -> None:
+        """Ends an opening that failed or was interrupted."""
+        if self._channel:
+            self._channel.close(wait=False)
+        if self._opening:
+            self._opening.request.leave(drop=True)
+
+    def __del__(self) -> None:
+        if self.__dict__.get("_channel"):
+            self._abandon()
+
+    def __repr__(self) -> str:
+        return f"<{type(self).__name__}, {'closed' if self.closed else f'set {self.set}'}>"
+
+    def __reduce__(self) -> NoReturn:
+        raise TypeError(f"{type(self).__name__} cannot be pickled or copied: it is a running process")
+
+    @property
+    def set(self) -> str:
+        """The id of the parameter set in use."""
+        return self._channel.set if self._channel else ""
+
+    @property
+    def closed(self) -> bool:
+        """Whether the session is not open: it was closed, or its process has ended."""
+        return self._channel is None or self._channel.closing or not self._channel.is_alive()
+
+    @property
+    def left(self) -> Tuple[Left, ...]:
+        """The fills and new parameter sets that were sent and whose calls were interrupted, or ran out of time, before they returned."""
+        return tuple(self._left)
+
+    def _open_channel(self) -> Channel:
+        """The channel. Raises SessionEnded if the session was never opened."""
+        if self._channel is None:
+            raise SessionEnded("the session is not open")
+        return self._channel
+
+    def _deadline(self, timeout: Union[Deadline, float, None]) -> Deadline:
+        """When a call has to end that begins now, or that has begun."""
+        if isinstance(timeout, Deadline):
+            return timeout
+        seconds = self._timeout if timeout is None else timeout
+        return NEVER if seconds is None else Deadline(seconds)
+
+    def _leave(self, question: Question[Any]) -> Left:
+        """Withdraws the request of a call that ends without its answer. If it was sent and changes something, it is kept in `left`."""
+        left = Left(question)
+        question.request.leave(drop=not question.changes)
+        if question.changes and left.sent and all(it.of is not question for it in self._left):
+            self._left.append(left)
+        return left
+
+    def _timed_out(self, question: Question[Any], deadline: Deadline) -> TimedOut:
+        """Leaves a request whose time is up, and returns the error."""
+        left = self._leave(question)
+        error = TimedOut(f"the session did not answer within {deadline.seconds:g} seconds", left.request, left.sent)
+        error._left = left
+        return error
+
+
+class Session(Desk):
     """A parameter set and positions in the memory of a process `span session`, which answers requests about them.
 
-    Threads may share a session, which answers one call at a time. Fills and a new set affect later calls of all threads. The positions
-    are lost when the session ends, so save `positions()` if you need them. Close a session, or use it in a `with` statement.
+    Threads may share a session. Fills and a new set affect later calls of all threads. The positions are lost when the session ends, so
+    save `positions()` if you need them. Close a session, or use it in a `with` statement.
 
     Legs are a dict from contracts to quantities, positive if bought and negative if sold. A call that is rejected raises RequestError
     and changes nothing. If the process ends, this and all later calls raise SessionEnded.
+
+    `timeout` is the number of seconds that a call has, with the time that other calls take before it. If it has no answer then, it raises
+    TimedOut. None means the `timeout` of the session, and there that a call waits as long as it takes.
+
+    A call may be interrupted at any time, by Ctrl-C or by any signal handler that raises. Later calls get their own answers. A fill or a
+    new set that was sent before is listed in `left`, which tells its outcome.
     """
 
-    def __init__(self, params: Source, positions: Source, *, workers: int = 1) -> None:
+    def __init__(
+        self, params: Source, positions: Source, *, workers: int = 1, timeout: Optional[float] = None,
+        program: Union[str, "os.PathLike[str]", None] = None, digits: Optional[int] = None,
+    ) -> None:
         """Reads the two files, which are given as in `margin`. `workers` is the number of threads that compute the margins of all accounts.
 
-        Raises what `margin` raises, and ProgramError if the program is older than 1.3.
+        `program` and `digits` are as in `Span`. Raises what `margin` raises, and ProgramError if the program is older than 1.3.
         """
-        self._lock = threading.Lock()
-        with Inputs() as inputs:
-            files = [inputs.file(params, PARAMETER, "params.csv"), inputs.file(positions, POSITION, "positions.csv")]
-            command = _program.command("session", f"--workers={workers}", "--", *files, least=_program.SESSIONS)
-            self._channel = Channel(command)
-            self._channel.opening()
+        super().__init__(params, positions, workers=workers, timeout=timeout, program=program, digits=digits)
+        try:
+            deadline = Deadline(timeout)
+            channel, opening = self._prepare(deadline)
+            channel.start()
+            if not opening.request.wait(deadline):
+                raise self._timed_out(opening, deadline)
+            told = opening.told()
+            if isinstance(told, SpanError):
+                raise told
+        except BaseException:
+            self._abandon()
+            raise
 
     def __enter__(self) -> "Session":
         return self
@@ -48,128 +200,90 @@ class Session:
     def __exit__(self, kind: Optional[Type[BaseException]], error: Optional[BaseException], trace: Optional[TracebackType]) -> None:
         self.close()
 
-    def __del__(self) -> None:
-        if "_channel" in self.__dict__:
-            self.close()
-
     def close(self) -> None:
-        """Ends the session and its process. Calls that follow raise SessionEnded."""
-        with self._lock:
+        """Ends the session and its process at once. Calls that wait and calls that follow raise SessionEnded."""
+        if self._channel:
             self._channel.close()
 
-    @property
-    def set(self) -> str:
-        """The id of the parameter set in use."""
-        return self._channel.set
+    @overload
+    def margin(self, account: None = None, *, timeout: Optional[float] = None) -> Statement: ...
 
     @overload
-    def margin(self) -> Statement: ...
+    def margin(self, account: str, *, timeout: Optional[float] = None) -> AccountMargin: ...
 
-    @overload
-    def margin(self, account: str) -> AccountMargin: ...
-
-    def margin(self, account: Optional[str] = None) -> Union[Statement, AccountMargin]:
+    def margin(self, account: Optional[str] = None, *, timeout: Optional[float] = None) -> Union[Statement, AccountMargin]:
         """The margin of an account, or of all accounts if none is named. Raises RequestError E1 if there is no such account."""
         if account is None:
-            answer = self._ask("MARGIN")
-            return _results.statement(answer.lines, answer.set)
-        return _results.account_margin(self._ask(_request("MARGIN", account)).lines)
+            return self._ask(_questions.margins(), timeout)
+        return self._ask(_questions.margin(account), timeout)
 
-    def explain(self, account: str) -> AccountExplanation:
+    def explain(self, account: str, *, timeout: Optional[float] = None) -> AccountExplanation:
         """The reasons for the margin of an account. Raises RequestError E1 if there is no such account."""
-        return _results.account_explanation(self._ask(_request("EXPLAIN", account)).lines)
+        return self._ask(_questions.explanation(account), timeout)
 
-    def try_order(self, account: str, legs: Legs, name: str = NAME) -> TriedOrder:
+    def try_order(self, account: str, legs: Legs, name: str = NAME, *, timeout: Optional[float] = None) -> TriedOrder:
         """What an order would do to the margin of its account. All legs count together. It changes nothing.
 
         The account may be one that has no positions yet.
         """
-        return _results.tried_order(self._ask(_try(account, legs, name)).lines)
+        return self._ask(_questions.tried(account, legs, name), timeout)
 
     @overload
-    def try_orders(self, orders: Iterable[Try], *, return_errors: Literal[False] = False) -> List[TriedOrder]: ...
+    def try_orders(
+        self, orders: Iterable[Try], *, return_errors: Literal[False] = False, timeout: Optional[float] = None
+    ) -> TriedOrders: ...
 
     @overload
-    def try_orders(self, orders: Iterable[Try], *, return_errors: Literal[True]) -> List[Union[TriedOrder, SpanError]]: ...
+    def try_orders(
+        self, orders: Iterable[Try], *, return_errors: Literal[True], timeout: Optional[float] = None
+    ) -> List[Union[TriedOrder, SpanError]]: ...
 
-    def try_orders(self, orders: Iterable[Try], *, return_errors: bool = False) -> Sequence[Union[TriedOrder, SpanError]]:
+    def try_orders(
+        self, orders: Iterable[Try], *, return_errors: bool = False, timeout: Optional[float] = None
+    ) -> Union[TriedOrders, List[Union[TriedOrder, SpanError]]]:
         """What each of many orders would do by itself. This is faster than a call for each order. It changes nothing.
 
         An order is a tuple of its account and its legs, or of account, legs and name. The first order that is rejected raises its error
-        after all answers have been read. With return_errors=True, the list has the error instead of the result.
+        after all answers have been read. With return_errors=True, the result is a list that has the error instead of the order.
         """
-        requests = [_try_or_error(*order) for order in orders]
-        with self._lock:
-            self._channel.send([it for it in requests if isinstance(it, str)])
-            results = [_tried(it, self._channel.answer()) if isinstance(it, str) else it for it in requests]
-        if not return_errors:
-            for result in results:
-                if isinstance(result, SpanError):
-                    raise result
-        return results
+        if return_errors:
+            return self._ask(_questions.each_tried(orders), timeout)
+        return self._ask(_questions.all_tried(orders), timeout)
 
-    def fill(self, account: str, legs: Legs) -> AccountTotal:
+    def fill(self, account: str, legs: Legs, *, timeout: Optional[float] = None) -> AccountTotal:
         """Adds quantities to the net positions of an account, which may be a new one. Returns its total afterwards."""
-        return _results.account_total(self._ask(_request("FILL", account, *_pairs(legs))).lines)
+        return self._ask(_questions.filled(account, legs), timeout)
 
-    def use_set(self, params: Source) -> SetCounts:
+    def use_set(self, params: Source, *, timeout: Optional[float] = None) -> SetCounts:
         """Replaces the parameter set, and keeps all positions. Returns the counts of the new set.
 
         Raises ParametersError, or FileError, or PositionsError if an account holds a contract that the new set lacks.
         """
-        with Inputs() as inputs:
-            path = inputs.file(params, PARAMETER, "params.csv")
-            # The working directory may have changed since the session was started.
-            whole = path if os.path.isabs(path) else os.path.join(os.getcwd(), path)
-            name = whole if _fits(whole) else inputs.copy(path, "params.csv")
-            return _results.set_counts(self._ask(f"SET,{name}").lines)
+        deadline = self._deadline(timeout)
+        return self._ask(_questions.used(params, self._digits, deadline), deadline)
 
-    def positions(self) -> Positions:
+    def positions(self, *, timeout: Optional[float] = None) -> Positions:
         """The positions of all accounts. An account that holds nothing has one record of quantity 0."""
-        answer = self._ask("POSITIONS")
-        return _results.positions(answer.lines, answer.set)
+        return self._ask(_questions.positions(), timeout)
 
-    def _ask(self, request: str) -> Answer:
-        """The answer to a request. Raises its error if it is rejected."""
-        with self._lock:
-            self._channel.send([request])
-            answer = self._channel.answer()
-        if answer.refused is not None:
-            raise error_of_request(answer.refused, request)
-        return answer
+    def _ask(self, question: Question[Result], timeout: Union[Deadline, float, None]) -> Result:
+        """The answer to a question. Raises its error if it is rejected.
 
-
-def _request(word: str, *fields: str) -> str:
-    """A request with these fields. Raises RequestError if a field has a comma or a line end, which would make it another request."""
-    line = ",".join((word, *fields))
-    if line.count(",") != len(fields) or "\n" in line or "\r" in line:
-        field = next(number for number, text in enumerate(fields, 2) if set(text) & set(",\r\n"))
-        raise RequestError(f"request: X4 BadName at field {field}")
-    return line
-
-
-def _pairs(legs: Legs) -> Iterator[str]:
-    """The fields of legs."""
-    for contract, quantity in legs.items():
-        yield contract
-        yield str(index(quantity))
-
-
-def _try(account: str, legs: Legs, name: str = NAME) -> str:
-    return _request("TRY", name, account, *_pairs(legs))
-
-
-def _try_or_error(account: str, legs: Legs, name: str = NAME) -> Union[str, RequestError]:
-    try:
-        return _try(account, legs, name)
-    except RequestError as error:
-        return error
-
-
-def _tried(request: str, answer: Answer) -> Union[TriedOrder, SpanError]:
-    return _results.tried_order(answer.lines) if answer.refused is None else error_of_request(answer.refused, request)
-
-
-def _fits(path: str) -> bool:
-    """Whether a request can contain this path."""
-    return not set(path) & set("\r\n") and len(f"SET,{path}".encode()) <= LONGEST_REQUEST
+        All from the sending to the return is in one `try`: whatever interrupts it, the request is withdrawn, or kept in `left`. An
+        interrupt that comes when this has returned is like one after the call: the caller does not get what the call returned.
+        """
+        told: Union[Result, SpanError, None] = None
+        try:
+            deadline, request = self._deadline(timeout), question.request
+            (self._channel or self._open_channel()).put(request)
+            if not request.wait(deadline):
+                told = self._timed_out(question, deadline)
+                raise told
+            told = question.told()
+            if isinstance(told, SpanError):
+                raise told
+            return told
+        except BaseException as error:
+            if error is not told:
+                self._leave(question)
+            raise

@@ -8,6 +8,11 @@ use Rattle.plan_compiler.specs.Compiled.{SetView}
 pub record CountsPublications (words : List Cell) (sets : List SetView) : Type 0 where
   pub are : words ≡ (length sets, true) ∷ (0, true) ∷ []
 
+-- what contracts see of a history: its book, and the sets that were published
+pub record HistoryView : Type 0 where
+  pub book : Book
+  pub published : List SetView
+
 -- the first word of a book
 abbrev pub counter_of : Book → Named
 counter_of book = record { tracked = true; key = 0; book = book }

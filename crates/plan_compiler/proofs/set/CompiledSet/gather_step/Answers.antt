@@ -6,5 +6,5 @@ pub returns : goal.returns
 returns c =
     let known = rw (← c.self.view_is) at c.requires in
     let place = rw c.deref.ensures at c.first_step.ensures.value in
-    let step = step_at_place _ _ _ _ _ c.self.invariant _ c.self.view_is (op.Gather c.args.commodity) known _ place in
+    let step = step_at_place _ _ _ _ _ c.self.invariant.0 _ c.self.view_is (op.Gather c.args.commodity) known _ place in
     record { in_range = step.0; op = step.1 }

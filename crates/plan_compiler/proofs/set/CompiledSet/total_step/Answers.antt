@@ -13,7 +13,7 @@ returns c =
     let n = length t.commodities in
     let place : c.total_step.result ≡ place_of t (last_total t) =
     rw (c.total_step.ensures.value, c.commodities.ensures.value, c.deref.ensures) (rw (place-before_total t n) refl) in
-    let step = step_at_place _ _ _ _ _ c.self.invariant _ c.self.view_is (last_total t) (known_before_total t n (omega arith)) _ place in
+    let step = step_at_place _ _ _ _ _ c.self.invariant.0 _ c.self.view_is (last_total t) (known_before_total t n (omega arith)) _ place in
     record {
       in_range = step.0;
       op = rw (← c.self.view_is) (rw (← c.self.view_is) at step.1);

@@ -16,7 +16,7 @@ returns c =
     let place : c.premium_step.result ≡ place_of t (last_value t) =
     rw (c.premium_step.ensures, c.commodities.ensures.value, c.deref.ensures) (rw (place-before_value t n) refl) in
     let known = known_before_value t has n (omega arith) in
-    let step = step_at_place _ _ _ _ _ c.self.invariant _ c.self.view_is (last_value t) known _ place in
+    let step = step_at_place _ _ _ _ _ c.self.invariant.0 _ c.self.view_is (last_value t) known _ place in
     record {
       some = search rules;
       in_range = step.0;

@@ -1,0 +1,220 @@
+"""The requests of a session: the line of each, the answer that it must have, and the object that the answer becomes."""
+import os
+from operator import index
+from typing import Callable, Generic, Iterable, Iterator, List, Mapping, Optional, Tuple, TypeVar, Union
+
+from span_margin import _results
+from span_margin._amounts import UNKNOWN, Money
+from span_margin._channel import End, Expected, Request
+from span_margin._errors import FileChangedError, RequestError, SpanError, error_of_request
+from span_margin._inputs import PARAMETER, Inputs, SetFile, Source, need_legs
+from span_margin._lines import AccountTotal, SetCounts
+from span_margin._program import Deadline
+from span_margin._results import AccountExplanation, AccountMargin, Positions, Statement, TriedOrder, TriedOrders
+
+Result = TypeVar("Result", covariant=True)
+Legs = Mapping[str, int]
+# An order to evaluate: its account, its legs, and a name if it has one.
+Try = Union[Tuple[str, Legs], Tuple[str, Legs, str]]
+
+NAME = "TRY"  # the name of an order that has none
+LONGEST_REQUEST = 4096  # bytes of a request without its line end
+# The words of the lines of an explanation before its T line.
+REASONS = (b"HELD", b"SUMS", b"SCAN", b"MONTH", b"INTRA", b"SPOT", b"INTER", b"CREDIT", b"SHORT", b"R")
+
+
+class Question(Generic[Result]):
+    """A request and what its answer becomes. `changes`: it changes the positions or the parameter set."""
+
+    def __init__(
+        self, request: Request, read: Callable[[Request], Union[Result, SpanError]], *, changes: bool = False,
+        ended: Callable[[End], SpanError] = End.of_call,
+    ) -> None:
+        self.request, self._read, self.changes, self._ended = request, read, changes, ended
+
+    def told(self) -> Union[Result, SpanError]:
+        """The result of the complete request, or the error with which it was rejected or the session ended."""
+        if self.request.end:
+            return self._ended(self.request.end)
+        return self._read(self.request)
+
+
+class One(Question[Result]):
+    """A question of one line."""
+
+    def told(self) -> Union[Result, SpanError]:
+        request = self.request
+        if request.refused and not request.end:
+            return error_of_request(request.refused[0], request.lines[0][:-1])
+        return super().told()
+
+
+# --- Questions about what the session holds ---
+
+
+def margins() -> Question[Statement]:
+    """The margins of all accounts."""
+    request = Request(["MARGIN\n"], [Expected(b"T,", (b"\nR,", b"\nT,"), empty=True)])
+    return One(request, lambda it: _results.statement(it.answers[0], it.money, it.set))
+
+
+def margin(account: str) -> Question[AccountMargin]:
+    """The margin of an account."""
+    line, names = _line("MARGIN", account), _names(account)
+    return One(Request([line], [Expected(b"T" + names, (b"\nR" + names,))]), lambda it: AccountMargin(it.answers[0], it.money))
+
+
+def explanation(account: str) -> Question[AccountExplanation]:
+    """The reasons for the margin of an account."""
+    line, names = _line("EXPLAIN", account), _names(account)
+    expected = Expected(b"T" + names, [b"\n" + word + names for word in REASONS])
+    return One(Request([line], [expected]), lambda it: AccountExplanation(it.answers[0], it.money))
+
+
+def positions() -> Question[Positions]:
+    """The positions of all accounts."""
+    request = Request(["POSITIONS\n"], [Expected(b"", None, empty=True)])
+    return One(request, lambda it: _results.positions(it.answers[0], it.set))
+
+
+# --- Orders and fills ---
+
+
+def tried(account: str, legs: Legs, name: str) -> Question[TriedOrder]:
+    """What an order would do to the margin of its account."""
+    line, answer = _try(account, legs, name)
+    return One(Request([line], [answer]), lambda it: TriedOrder(it.answers[0], it.money))
+
+
+def all_tried(orders: Iterable[Try]) -> Question[TriedOrders]:
+    """What each of many orders would do, or the first error."""
+    request, errors = _of_orders(orders)
+
+    def read(request: Request) -> Union[TriedOrders, SpanError]:
+        if request.refused or any(errors):
+            return next(it for it in _told(request, errors) if isinstance(it, SpanError))
+        return TriedOrders(b"".join(request.answers), request.money, request.set)
+
+    return Question(request, read)
+
+
+def each_tried(orders: Iterable[Try]) -> Question[List[Union[TriedOrder, SpanError]]]:
+    """What each of many orders would do, or the error of the order."""
+    request, errors = _of_orders(orders)
+
+    def read(request: Request) -> List[Union[TriedOrder, SpanError]]:
+        return [TriedOrder(it, request.money) if isinstance(it, bytes) else it for it in _told(request, errors)]
+
+    return Question(request, read)
+
+
+def _of_orders(orders: Iterable[Try]) -> Tuple[Request, List[Optional[SpanError]]]:
+    """A request for all orders that can be one, and for each order None, or the error of one that cannot."""
+    lines, expected = [], []
+    errors: List[Optional[SpanError]] = []
+    for order in orders:
+        try:
+            line, answer = _try(*order)
+        except RequestError as error:
+            errors.append(error)
+        else:
+            errors.append(None)
+            lines.append(line)
+            expected.append(answer)
+    return Request(lines, expected), errors
+
+
+def _told(request: Request, errors: Iterable[Optional[SpanError]]) -> Iterator[Union[bytes, SpanError]]:
+    """For each order the lines of its answer, or its error."""
+    sent = iter(range(len(request.lines)))
+    for error in errors:
+        if error:
+            yield error
+        else:
+            at = next(sent)
+            yield error_of_request(request.refused[at], request.lines[at][:-1]) if at in request.refused else request.answers[at]
+
+
+def filled(account: str, legs: Legs) -> Question[AccountTotal]:
+    """Adds quantities to the positions of an account."""
+    line = _line("FILL", account, *_pairs(legs))
+    request = Request([line], [Expected(b"T" + _names(account))])
+    return One(request, lambda it: _results.account_total(it.answers[0], it.money), changes=True)
+
+
+# --- Parameter sets ---
+
+
+def opened(file: SetFile, inputs: Inputs) -> Question[SetCounts]:
+    """The opening. Its request is not sent: the session answers it when it has read both files."""
+    return Question(*_of_set("", file, inputs), ended=End.of_opening)
+
+
+def used(params: Source, digits: Optional[int], deadline: Deadline) -> Question[SetCounts]:
+    """Replaces the parameter set. A file made for the request is removed when the session has read it."""
+    inputs = Inputs(deadline)
+    try:
+        path = inputs.file(params, PARAMETER, "params.csv")
+        # The working directory may have changed since the session was started.
+        whole = path if os.path.isabs(path) else os.path.join(os.getcwd(), path)
+        file = SetFile(whole if _fits(whole) else inputs.copy(path, "params.csv"), digits, deadline)
+        return One(*_of_set(f"SET,{file.path}\n", file, inputs), changes=True)
+    except BaseException:
+        inputs.close()
+        raise
+
+
+def _of_set(line: str, file: SetFile, inputs: Inputs) -> Tuple[Request, Callable[[Request], SetCounts]]:
+    """A request that makes the session read a parameter file, and how its answer is read."""
+    replaced: List[str] = []  # the id of the set that the session read, if the file has another one
+
+    def money(set_id: str) -> Money:
+        if file.has_still(set_id):
+            return file.money
+        replaced.append(set_id)
+        return UNKNOWN
+
+    def read(request: Request) -> SetCounts:
+        if replaced:
+            raise FileChangedError(file.path)
+        return _results.set_counts(request.answers[0])
+
+    return Request([line], [Expected(b"OK,")], money, inputs.close), read
+
+
+# --- Lines ---
+
+
+def _line(word: str, *fields: str) -> str:
+    """A request with these fields. Raises RequestError if a field has a comma or a line end, which would make it another request."""
+    line = ",".join((word, *fields))
+    if line.count(",") != len(fields) or "\n" in line or "\r" in line:
+        field = next(number for number, text in enumerate(fields, 2) if set(text) & set(",\r\n"))
+        raise RequestError(f"request: X4 BadName at field {field}")
+    return line + "\n"
+
+
+def _names(*names: str) -> bytes:
+    """What follows the word of a line about these names."""
+    return f",{','.join(names)},".encode("utf-8", "surrogatepass")
+
+
+def _pairs(legs: Legs) -> List[str]:
+    """The fields of legs."""
+    need_legs(legs)
+    fields: List[str] = []
+    for contract, quantity in legs.items():
+        fields += (contract, str(index(quantity) + 0))  # (+ 0, since a bool is an index, and its text is not a number)
+    return fields
+
+
+def _try(account: str, legs: Legs, name: str = NAME) -> Tuple[str, Expected]:
+    """The request for an order, and its answer."""
+    line = _line("TRY", name, account, *_pairs(legs))
+    names = _names(name, account)
+    return line, Expected(b"ORDER" + names, (b"\nCHANGE" + names,))
+
+
+def _fits(path: str) -> bool:
+    """Whether a request can contain this path."""
+    return not set(path) & set("\r\n") and len(f"SET,{path}".encode()) <= LONGEST_REQUEST

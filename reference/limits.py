@@ -1,0 +1,43 @@
+"""METHOD, Limits: what is outside a limit is rejected with a fault code."""
+
+FILE_CAP = 67108864  # bytes of a file
+
+# P8: records of a file, then records of a commodity.
+MAX_COMMODITIES = 128
+MAX_CONTRACTS = 4096
+MAX_INTER_SPREADS = 256
+MAX_TIERS = 32
+MAX_INTRA_SPREADS = 64
+MAX_SPOT_MONTHS = 16
+
+# P4: parts of a record.
+MIN_LEGS = 2
+MAX_LEGS = 4
+SCENARIOS = 16
+
+# P7: amounts in minor units.
+MAX_RATE = 100000000
+MAX_ARRAY_VALUE = 100000000
+MAX_OPTION_VALUE = 100000000
+
+# P7: in 10^-4.
+MAX_DELTA = 10000
+MAX_SCALE = 100000
+MAX_RATIO = 10000000
+MAX_BASIS_POINTS = 10000
+
+# P7: numbers.
+MAX_PROFILE = 2
+MAX_TIER_NUMBER = 32
+MAX_PRIORITY = 9999
+
+# Q4, O4, Q5, O5, B2 and B3.
+MAX_QUANTITY = 1000000
+MAX_ACCOUNTS = 4096
+MAX_ORDERS = 65536
+MAX_NET = 100000
+MAX_HELD = 1024
+
+# SESSIONS, Requests.
+MAX_REQUEST = 4096
+MAX_PAIRS = 64
