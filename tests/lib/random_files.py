@@ -266,7 +266,7 @@ class Faults:
         """A record with a wrong field, one field more or less, or another kind."""
         chosen = self.numbers.random()
         if chosen < 0.15:
-            return record[:-1] if chosen < 0.08 else [*record, self.numbers.choice(("", "0", "1"))]
+            return record[:-1] if chosen < 0.08 and len(record) > 1 else [*record, self.numbers.choice(("", "0", "1"))]
         if chosen < 0.25 and record[0] in FIELDS:
             return [self.numbers.choice((record[0].lower(), "", "TIER", "INTER", record[0] + " ", MARK + "SPOT")), *record[1:]]
         if record[0] == "CONTRACT" and self.often(0.2):  # a value, which a future must not have
