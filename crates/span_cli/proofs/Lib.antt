@@ -7,4 +7,3 @@ pub mod ServingLemmas
 pub mod SessionLemmas
 pub mod StreamLemmas
 pub mod WordsLaws
-pub mod PieceLemmas

@@ -1,4 +1,3 @@
-pub mod BitLemmas
 pub mod DigitLemmas
 pub mod NumberLaws
 pub mod TextLaws
@@ -9,4 +8,3 @@ pub mod ExactLaws
 pub mod ShortLaws
 pub mod OnLiterals
 pub mod LinePartLemmas
-pub mod ReciprocalLemmas

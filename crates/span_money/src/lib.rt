@@ -2,9 +2,7 @@
 #![tactic(auto)]
 
 pub mod amounts;
-pub mod bits;
 pub mod division;
-pub mod divisor;
 pub mod exact;
 pub mod laws;
 pub mod line_fields;

@@ -2,7 +2,6 @@
 //! commodity.
 #![tactic(auto)]
 
-pub mod contracts;
 pub mod groups;
 pub mod held;
 mod kinds;
@@ -15,7 +14,6 @@ pub mod portfolios;
 pub mod profiles;
 pub mod raw;
 pub mod records;
-pub mod runs;
 pub mod sides;
 pub mod slots;
 mod spreads;

@@ -14,9 +14,3 @@ mod SpotLemmas
 pub mod BesideLemmas
 pub mod ApartLaws
 pub mod SpreadBounds
-pub mod TierPlanLemmas
-pub mod TierSumLemmas
-pub mod TierFormLemmas
-pub mod TierStartLemmas
-pub mod TierNumberLemmas
-pub mod SetPlanLemmas

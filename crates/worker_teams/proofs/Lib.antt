@@ -1,3 +1,2 @@
 pub mod JoinLemmas
 pub mod OutcomeRowLemmas
-pub mod TextLemmas

@@ -6,5 +6,4 @@ mod cuts;
 pub mod laws;
 pub mod rows;
 pub mod teams;
-pub mod texts;
 mod worked;
