@@ -310,9 +310,10 @@ class Faults:
 
     def filled(self, records: list[Record], kind: str) -> None:
         """Adds records of a kind, in a commodity, up to its limit, one less, or one or two more."""
-        cc, other = self.numbers.sample([record[1] for record in records if record[0] == "COMMODITY"] + ["N1", "N2"], 2)
-        tier = next((record[2] for record in records if record[:2] == ["TIER", cc]), "1")
-        have = sum(record[0] == kind and (kind in ("COMMODITY", "INTER") or record[1] == cc) for record in records)
+        known = [(*record, "", "")[:3] for record in records]  # a record may have lost fields
+        cc, other = self.numbers.sample([name for word, name, _ in known if word == "COMMODITY"] + ["N1", "N2"], 2)
+        tier = next((number for word, name, number in known if (word, name) == ("TIER", cc)), "1")
+        have = sum(word == kind and (kind in ("COMMODITY", "INTER") or name == cc) for word, name, _ in known)
         for at in range(have, MOST[kind] + self.numbers.choice((-1, 0, 1, 1, 1 if self.plain else 2))):
             record = {"COMMODITY": [f"N{at}", "0", "SUM"], "TIER": [cc, str(at % 32 + 1), f"21{at:02d}01", f"21{at:02d}12"],
                       "SPOT": [cc, f"22{at:02d}01", "0", "0"], "INTRA": [cc, f"{at + 5000}", "0", tier, "A", "1", tier, "B", "1"],
