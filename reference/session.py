@@ -137,7 +137,7 @@ class Session:
     def bound(self, account: str, fields: List[str], first_pair: int) -> Dict[str, int]:
         """SESSIONS, Rejected requests: what the account holds after all pairs of the request, or B1, B2 or B3.
 
-        The pairs are bound like the records of one order, with the number of the contract's field as that of the record. "The field of B2
+        The pairs are bound like the records of one order, and the number of the contract's field is the record's number. "The field of B2
         is the first one that names the contract", and the field of B3 is the account.
         """
         pairs = range(first_pair, len(fields), 2)
