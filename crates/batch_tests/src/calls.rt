@@ -15,11 +15,16 @@ use worker_pool::gates::OpenGate;
 use worker_pool::plain::{Runs, run_plain};
 use worker_pool::teams::Team;
 
-// One account, which is long one future and loses at most 1200.
+// One account, which is long one future and loses at most 1200, without and with a gate.
 fn of_one(rt: &impl Abort, alloc: Global, set: &Arc<CompiledSet>) {
     let account = account_of(alloc, set, POSITIONS).expect(rt, "an account");
     let mut runs = Runs::new(alloc, set).expect(rt, "runs");
     let row = runs.row(account).expect(rt, "a row");
+    assert!(rt; row.total().get() == 1200);
+    let account = account_of(alloc, set, POSITIONS).expect(rt, "an account");
+    let row = runs
+        .row_of(account, Team::ALONE, &OpenGate)
+        .expect(rt, "a row");
     assert!(rt; row.total().get() == 1200);
 }
 

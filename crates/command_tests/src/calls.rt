@@ -37,9 +37,9 @@ fn of_sources<R: Files + Abort>(rt: &R, alloc: Global) {
 // Reading a reader to its end, by turns and as a file.
 fn of_readers(rt: &impl Abort, alloc: Global) {
     let mut turns = Turns::new(b"abc".as_slice(), 4);
-    let read = read_within(alloc, &mut turns, 3).expect(rt, "bytes");
+    let read = read_within(alloc, &mut turns, 3, 3).expect(rt, "bytes");
     assert_eq!(rt; read.as_slice(), b"abc".as_slice());
-    let read = read_file(alloc, b"abc".as_slice()).expect(rt, "a file");
+    let read = read_file(alloc, b"abc".as_slice(), 3).expect(rt, "a file");
     assert_eq!(rt; read.as_slice(), b"abc".as_slice());
 }
 

@@ -42,7 +42,7 @@ impl Read for Script {
 // Reads at most three bytes within eight turns.
 fn read(alloc: Global, turns: &'static [Turn], last: Turn) -> Result<Vec<u8>, ReadFault> {
     let script = Script { turns, last, at: 0 };
-    read_within(alloc, &mut Turns::new(script, 8), 3)
+    read_within(alloc, &mut Turns::new(script, 8), 3, 3)
 }
 
 #[test]
@@ -134,12 +134,12 @@ fn remembers_what_failed(rt: HostRuntime) {
         at: 0,
     };
     let mut turns = Turns::new(script, 8);
-    assert!(rt; read_within(alloc, &mut turns, 3).is_ok() && !turns.failed());
+    assert!(rt; read_within(alloc, &mut turns, 3, 3).is_ok() && !turns.failed());
     let script = Script {
         turns: &[],
         last: Turn::Breaks,
         at: 0,
     };
     let mut turns = Turns::new(script, 8);
-    assert!(rt; read_within(alloc, &mut turns, 3).is_err() && turns.failed());
+    assert!(rt; read_within(alloc, &mut turns, 3, 3).is_err() && turns.failed());
 }

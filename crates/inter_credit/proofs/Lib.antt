@@ -9,6 +9,9 @@ pub mod Sizes
 pub mod SpreadLemmas
 pub mod StateLemmas
 mod NothingFormed
+mod IndexLemmas
+mod LoadedLemmas
+mod BlockLemmas
 pub mod OpenLemmas
 pub mod DirectionLaws
 pub mod CreditBounds

@@ -9,7 +9,8 @@ use Rattle.std.proofs.lemmas.List.Elements.{filter_more}
 use Rattle.std.proofs.lemmas.Int.{ints, clamps}
 use Rattle.span_money.specs.Numbers.{negative_part}
 use Rattle.span_tables.specs.Net.{HeldContract}
-use Rattle.span_tables.specs.declared.records.Contract.{Contract}
+use Rattle.span_tables.specs.declared.contracts.Terms.{Terms}
+use Rattle.span_tables.specs.near.Terms.{AreTermsOf}
 use Rattle.span_tables.specs.declared.records.ProductKind.{ProductKind}
 use Rattle.span_tables.proofs.HeldLemmas.{held_here}
 use Rattle.span_tables.specs.declared.records.MinimumMethod.TheVariants as method
@@ -40,19 +41,21 @@ last_of : (b : Bool) (h : HeldContract) → sum_by (λ x. negative_part x.net) (
 last_of true h = sum_by-cons (λ (x : HeldContract). negative_part x.net) h [] ∙ omega arith
 last_of false h = refl
 
--- one more held contract, given by its record and its net
-pub short_count_more : (is_kind : ProductKind → Bool) (held : List HeldContract) (i : ℕ) (x : Contract) (n : ℤ) → i < length held
-    → IfSome (slice_get held i) (λ h. x ≡ h.contract) → IfSome (slice_get held i) (λ h. n ≡ h.net)
-    → short_count is_kind (take (i + 1) held) ≡ short_count is_kind (take i held) + cond (is_kind x.kind) (negative_part n) 0
-short_count_more is_kind held i x n lt contract net =
-    let h : HeldContract = record { contract = x; net = n } in
+-- one more held contract, given by its terms and its net
+pub short_count_more : (is_kind : ProductKind → Bool) (held : List HeldContract) (i : ℕ) (t : Terms) (n : ℤ) → i < length held
+    → IfSome (slice_get held i) (λ h. AreTermsOf h.contract t) → IfSome (slice_get held i) (λ h. n ≡ h.net)
+    → short_count is_kind (take (i + 1) held) ≡ short_count is_kind (take i held) + cond (is_kind t.kind) (negative_part n) 0
+short_count_more is_kind held i t n lt terms net =
+    let here = held_here held i t n lt terms net in
+    let h = here.0 in
     let of_kind : HeldContract → Bool = λ x. is_kind (x.contract).kind in
     let term : HeldContract → ℕ = λ x. negative_part x.net in
     ap (sum_by term) (filter_more of_kind held i h lt)
     ∙ sum_by-append term (filter of_kind (take i held)) (cond (of_kind (get_or held i h)) (get_or held i h ∷ []) [])
     ∙ ap (λ (k : HeldContract). short_count is_kind (take i held) + sum_by term (cond (of_kind k) (k ∷ []) []))
-    (sym (held_here held i x n lt contract net))
-    ∙ ap (λ m. short_count is_kind (take i held) + m) (last_of (is_kind x.kind) h)
+    (sym here.1)
+    ∙ ap (λ m. short_count is_kind (take i held) + m) (last_of (is_kind (h.contract).kind) h)
+    ∙ (λ j. short_count is_kind (take i held) + cond (is_kind (sym here.2.kind j)) (negative_part (sym here.3 j)) 0)
 
 -- method SUM counts both kinds together
 pub minimum_of_sum : (rate : ℕ) (held : List HeldContract)

@@ -10,7 +10,8 @@ use Rattle.span_money.proofs.WordLemmas.{product_size}
 use Rattle.span_tables.specs.Holdings.{AreHeld}
 use Rattle.span_tables.specs.Net.{HeldContract}
 use Rattle.span_tables.specs.declared.limits.TheConstants.{MAX_HELD, MAX_NET, MAX_OPTION_VALUE}
-use Rattle.span_tables.specs.declared.records.Contract.{Contract}
+use Rattle.span_tables.specs.declared.contracts.Terms.{Terms}
+use Rattle.span_tables.specs.near.Terms.{AreTermsOf}
 use Rattle.span_tables.proofs.HeldBounds.{int_sum_size}
 use Rattle.span_tables.proofs.HeldLemmas.{held_here}
 use Rattle.inter_credit.specs.OptionValue.{due_of, excess_of, net_value_of, position_value}
@@ -21,25 +22,26 @@ pub position_small : (net : ℤ) (value : ℕ) → nat_abs net ≤ MAX_NET → v
     → nat_abs (net *ℤ pos value) ≤ MAX_POSITION_VALUE
 position_small net value x y = product_size net (pos value) MAX_NET MAX_OPTION_VALUE x y
 
--- the value of the held contract at an index, given by its record and its net
-pub position_told : (held : List HeldContract) (i : ℕ) (x : Contract) (n value : ℤ) → value ≡ n *ℤ pos x.extras.option_value
-    → IfSome (slice_get held i) (λ h. x ≡ h.contract) → IfSome (slice_get held i) (λ h. n ≡ h.net)
+-- the value of the held contract at an index, given by its terms and its net
+pub position_told : (held : List HeldContract) (i : ℕ) (t : Terms) (n value : ℤ) → value ≡ n *ℤ pos t.option_value
+    → IfSome (slice_get held i) (λ h. AreTermsOf h.contract t) → IfSome (slice_get held i) (λ h. n ≡ h.net)
     → IfSome (slice_get held i) (λ h. value ≡ position_value h)
-position_told held i x n value is contract net = told (slice_get held i) contract net where
-  told : (o : Option HeldContract) → IfSome o (λ h. x ≡ h.contract) → IfSome o (λ h. n ≡ h.net)
+position_told held i t n value is terms net = told (slice_get held i) terms net where
+  told : (o : Option HeldContract) → IfSome o (λ h. AreTermsOf h.contract t) → IfSome o (λ h. n ≡ h.net)
       → IfSome o (λ h. value ≡ position_value h)
-  told None contract net = tt
-  told (Some h) contract net = is ∙ (λ j. net j *ℤ pos (contract j).extras.option_value)
+  told None terms net = tt
+  told (Some h) terms net = is ∙ (λ j. net j *ℤ pos (terms.option_value j))
 
--- one more held contract, given by its record and its net
-pub net_value_more : (held : List HeldContract) (i : ℕ) (x : Contract) (n : ℤ) → i < length held
-    → IfSome (slice_get held i) (λ h. x ≡ h.contract) → IfSome (slice_get held i) (λ h. n ≡ h.net)
-    → net_value_of (take (i + 1) held) ≡ net_value_of (take i held) +ℤ n *ℤ pos x.extras.option_value
+-- one more held contract, given by its terms and its net
+pub net_value_more : (held : List HeldContract) (i : ℕ) (t : Terms) (n : ℤ) → i < length held
+    → IfSome (slice_get held i) (λ h. AreTermsOf h.contract t) → IfSome (slice_get held i) (λ h. n ≡ h.net)
+    → net_value_of (take (i + 1) held) ≡ net_value_of (take i held) +ℤ n *ℤ pos t.option_value
 unfolding net_value_of
-net_value_more held i x n lt contract net =
-    let h : HeldContract = record { contract = x; net = n } in
-    fold_more (λ (a : ℤ) y. a +ℤ position_value y) (pos 0) held i h lt
-    ∙ ap (λ (y : HeldContract). net_value_of (take i held) +ℤ position_value y) (sym (held_here held i x n lt contract net))
+net_value_more held i t n lt terms net =
+    let here = held_here held i t n lt terms net in
+    fold_more (λ (a : ℤ) y. a +ℤ position_value y) (pos 0) held i here.0 lt
+    ∙ ap (λ (y : HeldContract). net_value_of (take i held) +ℤ position_value y) (sym here.1)
+    ∙ (λ j. net_value_of (take i held) +ℤ sym here.3 j *ℤ pos (sym here.2.option_value j))
 
 -- the option value of held contracts is within its limit
 pub net_value_small : (held : List HeldContract) → AreHeld held → nat_abs (net_value_of held) ≤ MAX_NET_VALUE

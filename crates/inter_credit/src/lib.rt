@@ -5,9 +5,11 @@
 pub mod commodity_state;
 pub mod credit;
 mod forming;
+pub mod index;
 pub mod laws;
 pub mod option_value;
 pub mod requirement;
+mod side_spreads;
 pub mod spreads;
 pub mod state;
 mod worked;

@@ -6,7 +6,7 @@ ghost use Rattle.inter_credit.specs.Requirement.{is_call, is_put, minimum_of, re
 ghost use Rattle.inter_credit.specs.declared.requirement.TheConstants.{MAX_PART};
 
 use span_money::amounts::{MAX_MONEY, Money};
-use span_tables::held::Held;
+use span_tables::held::HeldRun;
 use span_tables::records::{MinimumMethod, ProductKind};
 
 /// The maximum size of each part of a requirement, in minor units. An amount of money has room for ten parts.
@@ -29,7 +29,7 @@ pub struct ShortCounts {
 
 /// Returns the number of short calls and the number of short puts among the held contracts of a commodity, in
 /// contracts.
-pub fn short_counts(held: &Held) -> ShortCounts
+pub fn short_counts(held: &HeldRun<'_>) -> ShortCounts
     ensures calls { result.calls ≡ short_count is_call held.now }
     ensures puts { result.puts ≡ short_count is_put held.now }
     ensures bound { result.calls + result.puts ≤ MAX_HELD * MAX_NET }
@@ -38,7 +38,7 @@ pub fn short_counts(held: &Held) -> ShortCounts
     let mut puts = 0;
     for place in 0..held.len() {
         let short = short_part(held.net(place));
-        match held.contract(place).kind {
+        match held.terms(place).kind {
             ProductKind::Future => {}
             ProductKind::Call => calls += short,
             ProductKind::Put => puts += short,
@@ -48,7 +48,7 @@ pub fn short_counts(held: &Held) -> ShortCounts
 }
 
 // Returns the count of short option contracts.
-fn short_options(held: &Held, method: MinimumMethod) -> u64
+fn short_options(held: &HeldRun<'_>, method: MinimumMethod) -> u64
     ensures value { result ≡ short_options method held.now }
     ensures bound { result ≤ MAX_HELD * MAX_NET }
 {
@@ -62,7 +62,7 @@ fn short_options(held: &Held, method: MinimumMethod) -> u64
 /// Returns the short option minimum, in minor units: the rate (in minor units a contract) times the count of short
 /// option contracts.
 #[tactic(auto, unfolding(crate::specs::Requirement::minimum_of))]
-pub fn minimum(held: &Held, rate: u32, method: MinimumMethod) -> Money
+pub fn minimum(held: &HeldRun<'_>, rate: u32, method: MinimumMethod) -> Money
     requires { rate ≤ MAX_RATE }
     ensures value { result ≡ pos (minimum_of rate method held.now) }
     ensures bound { nat_abs result ≤ MAX_RATE * (MAX_HELD * MAX_NET) }

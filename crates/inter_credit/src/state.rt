@@ -1,15 +1,24 @@
 //! The state of each commodity: its net delta, its remaining delta after spreads, its price risk, and the weight of its
 //! credit (docs/METHOD.md, Intercommodity spreads).
-ghost use Rattle.std.specs.Prelude.{◌≡◌, ◌<◌, ◌≤◌, ◌==◌, false, length, replicate, slice_set, All, IfOk, pos, nat_abs};
-ghost use Rattle.inter_credit.specs.Credits.{inter_formed_both, inter_both_ways, unspread_state};
+ghost use Rattle.std.specs.Prelude.{◌≡◌, ◌≢◌, ◌<◌, ◌≤◌, ◌%◌, ◌==◌, ℕ, [], false, fold, length, replicate, slice_set, All, IfOk, OnOk};
+ghost use Rattle.std.specs.Prelude.{pos, nat_abs};
+ghost use Rattle.std.specs.Int.{bit_at};
+ghost use Rattle.inter_credit.specs.Credits.{inter_formed_both, inter_both_ways, state_at, unspread_state};
 ghost use Rattle.span_tables.specs.Accepted.{IsInter};
+ghost use Rattle.span_tables.specs.declared.records.Inter.{Inter};
+ghost use Rattle.span_tables.specs.declared.sides.Side.{Side};
 ghost use Rattle.inter_credit.specs.States.{IsNotLoaded, IsUnspread};
+ghost use Rattle.span_money.specs.declared.bits.TheConstants.{BITS};
+ghost use Rattle.inter_credit.specs.near.Index.{AreCovered, FormsNothing, IsCovered, IsIndex};
+ghost use Rattle.inter_credit.specs.near.Open.{AreLoaded};
 ghost use Rattle.inter_credit.specs.near.CommodityStates.{IsCommodityState};
 ghost use Rattle.span_tables.specs.declared.limits.TheConstants.{MAX_PRICE2, MAX_UNITS};
 
 use crate::commodity_state::CommodityState;
 use crate::forming::{count_both_ways, may_form_either, spread_both_ways};
+use crate::index::{Block, SpreadIndex};
 use span_money::amounts::Units;
+use span_money::bits::{BITS, take_first};
 use span_tables::records::Inter;
 use span_tables::sides::SpreadsFormed;
 use span_tables::slots::OpenSides;
@@ -22,6 +31,8 @@ pub struct InterState {
     commodities: Vec<CommodityState>,
     // The sides of the market on which commodities had a remaining delta when they were loaded.
     sides: OpenSides,
+    // A bit for the remainder by `BITS` of the number of each commodity that was loaded.
+    loaded: u64,
 }
 
 impl Model for InterState {
@@ -33,10 +44,43 @@ impl Model for InterState {
 
     ghost view = { λ state. state.commodities.items };
 
-    ghost invariant = { λ state. AreStates state.commodities.items state.sides };
+    ghost invariant = { λ state. AreStates state.commodities.items state.sides state.loaded };
 }
 
 impl InterState {
+    /// Returns the state without commodities, which takes no memory.
+    pub fn none(alloc: Global) -> InterState
+        ensures { result ≡ [] }
+    {
+        InterState {
+            commodities: Vec::new(alloc),
+            sides: OpenSides::none(),
+            loaded: 0,
+        }
+    }
+
+    /// Replaces the state by that of commodities that are not loaded, as `empty` returns it, and reuses its memory. It
+    /// only sets the loaded commodities back, unless the number of commodities changes.
+    pub fn restart(&mut self, alloc: Global, commodities: usize) -> Result<(), AllocError>
+        ensures { OnOk result (self.new ≡ replicate commodities (unspread_state (pos 0) 0)) }
+    {
+        if self.len() != commodities {
+            *self = empty(alloc, commodities)?;
+            return Ok(());
+        }
+        self.clear();
+        Ok(())
+    }
+
+    // Sets the loaded commodities back.
+    fn clear(&mut self)
+        ensures { self.new ≡ replicate (length self.old) (unspread_state (pos 0) 0) }
+    {
+        set_back(&mut self.commodities, self.loaded);
+        self.sides = OpenSides::none();
+        self.loaded = 0;
+    }
+
     /// Returns the number of commodities.
     pub fn len(&self) -> usize
         ensures { result ≡ length self.now }
@@ -64,8 +108,11 @@ impl InterState {
         ensures { IfOk result (λ state. state ≡ self.now) }
     {
         let commodities = Vec::from_slice(alloc, &self.commodities)?;
-        let sides = self.sides;
-        Ok(InterState { commodities, sides })
+        Ok(InterState {
+            commodities,
+            sides: self.sides,
+            loaded: self.loaded,
+        })
     }
 
     /// Sets a commodity's net delta, in 10^-8 deltas, and twice its price risk, in minor units. Its remaining delta is
@@ -85,6 +132,7 @@ impl InterState {
             return;
         }
         self.sides = self.sides.with(commodity, net);
+        self.loaded |= 1 << (commodity % BITS);
         self.commodities[commodity] = unspread_state(net, price2);
     }
 
@@ -108,12 +156,74 @@ impl InterState {
         count_both_ways(&mut self.commodities, &self.sides, spread)
     }
 
+    /// Forms the spreads in order, as `spread` forms each. It looks only at the spreads that the index finds.
+    pub fn spread_all(&mut self, index: &SpreadIndex, spreads: &[Inter])
+        requires spreads { All (IsInter (length self.old)) spreads.now }
+        requires index { IsIndex index.now spreads.now }
+        ensures value { self.new ≡ fold inter_both_ways self.old spreads.now }
+        ensures length { length self.new ≡ length self.old }
+    {
+        let mut left = spreads;
+        for block in &index.blocks {
+            let (now, later) = left.split_at(BITS.min(left.len()));
+            self.spread_block(block, now);
+            left = later;
+        }
+    }
+
+    // Forms the spreads of a block in order.
+    fn spread_block(&mut self, block: &Block, spreads: &[Inter])
+        requires spreads { All (IsInter (length self.old)) spreads.now }
+        requires block { AreCovered block.now spreads.now }
+        ensures value { self.new ≡ fold inter_both_ways self.old spreads.now }
+        ensures length { length self.new ≡ length self.old }
+    {
+        let mut left = self.may_form(block);
+        while let Some(number) = take_first(&mut left) {
+            if let Some(spread) = spreads.get(number) {
+                self.spread(spread);
+            }
+        }
+    }
+
+    // Returns the spreads of a block that may be formed. The others are formed in neither direction.
+    fn may_form(&self, block: &Block) -> u64
+        ensures { (number : ℕ) (spread : Inter) → ((side : Side) → IsCovered block.now side number spread.legs)
+            → bit_at result number ≡ 0 → FormsNothing self.now spread }
+    {
+        block.may_form(&self.commodities, self.loaded)
+    }
+
     /// Returns whether a spread may be formed. `false` means that none is formed and the state does not change. `true`
     /// means nothing, since a side whose delta was used up still counts.
     pub fn may_spread(&self, spread: &Inter) -> bool
         ensures { result ≡ false → inter_both_ways self.now spread.now ≡ self.now }
     {
         may_form_either(&self.sides, spread)
+    }
+}
+
+// Sets back the commodities whose numbers have the remainder `slot` by `BITS`.
+fn set_slot_back(states: &mut [CommodityState], slot: usize)
+    requires { slot < BITS }
+    ensures back { (c : ℕ) → c % BITS ≡ slot → state_at states.new c ≡ unspread_state (pos 0) 0 }
+    ensures others { (c : ℕ) → c % BITS ≢ slot → state_at states.new c ≡ state_at states.old c }
+{
+    let mut commodity = slot;
+    while commodity < states.len() {
+        states[commodity] = unspread_state(Units::new(0), 0);
+        commodity += BITS;
+    }
+}
+
+// Sets back the loaded commodities.
+fn set_back(states: &mut [CommodityState], loaded: u64)
+    requires { AreLoaded loaded states.old }
+    ensures { states.new ≡ replicate (length states.old) (unspread_state (pos 0) 0) }
+{
+    let mut left = loaded;
+    while let Some(slot) = take_first(&mut left) {
+        set_slot_back(states, slot);
     }
 }
 
@@ -135,8 +245,11 @@ pub fn empty(alloc: Global, commodities: usize) -> Result<InterState, AllocError
     ensures unspread { IfOk result IsUnspread }
 {
     let commodities = vec![in alloc; unspread_state(Units::new(0), 0); commodities]?;
-    let sides = OpenSides::none();
-    Ok(InterState { commodities, sides })
+    Ok(InterState {
+        commodities,
+        sides: OpenSides::none(),
+        loaded: 0,
+    })
 }
 
 /// Returns a copy of the state with one more commodity loaded: its net delta, in 10^-8 deltas, and twice its price

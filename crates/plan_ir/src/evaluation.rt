@@ -29,7 +29,7 @@ use scan_risk::Scan;
 use scan_risk::scanning::scan;
 use scan_risk::scenarios::sums;
 use span_money::amounts::Money;
-use span_tables::held::{Held, gather};
+use span_tables::held::{HeldRun, gather};
 use span_tables::portfolios::Portfolio;
 use span_tables::records::{Inter, Intra};
 use span_tables::tables::Tables;
@@ -61,7 +61,7 @@ fn inter_at(tables: &Tables, place: u32) -> &Inter
 }
 
 // The short option minimum of a commodity for its held contracts.
-fn minimum_at(tables: &Tables, commodity: u32, held: &Held) -> Money
+fn minimum_at(tables: &Tables, commodity: u32, held: &HeldRun<'_>) -> Money
     requires { commodity < length tables.now.commodities }
     ensures { result ≡ pos (minimum_of (commodity_at tables.now commodity).minimum_rate
         (commodity_at tables.now commodity).method held.now) }
@@ -169,18 +169,18 @@ fn apply_beside(
 {
     match op {
         Op::Gather(_) | Op::InterStart | Op::TotalStart | Op::ValueStart => unreachable!(),
-        Op::Sums(_) => Ok(Value::Sums(sums(first.held()))),
+        Op::Sums(_) => Ok(Value::Sums(sums(&first.held()))),
         Op::ScanMax(_) => Ok(Value::Scan(scan(first.sums()))),
-        Op::Months(_) => Ok(Value::Months(month_deltas(alloc, first.held())?)),
+        Op::Months(_) => Ok(Value::Months(month_deltas(alloc, &first.held())?)),
         Op::TierStart(_) => Ok(Value::Tiers(start(alloc, first.months())?)),
         Op::Delivery(c) => Ok(Value::Amount(delivery(
             first.months(),
             rest[0].tiers(),
             tables.spots(c as usize),
         ))),
-        Op::Minimum(c) => Ok(Value::Amount(minimum_at(tables, c, first.held()))),
+        Op::Minimum(c) => Ok(Value::Amount(minimum_at(tables, c, &first.held()))),
         Op::Final(c) => Ok(Value::Figures(final_figures(c, first, rest))),
-        Op::NetValue(_) => Ok(Value::Amount(net_value(first.held()))),
+        Op::NetValue(_) => Ok(Value::Amount(net_value(&first.held()))),
         Op::Spread(..)
         | Op::InterLoad(_)
         | Op::InterSpread(_)

@@ -69,8 +69,8 @@ impl NothingHeld {
         ensures { IfOk result (λ nothing. nothing ≡ nothing_held) }
     {
         let held = Held::none(alloc, tables)?;
-        let sums = sums(&held);
-        let months = month_deltas(alloc, &held)?;
+        let sums = sums(&held.run());
+        let months = month_deltas(alloc, &held.run())?;
         let tiers = start(alloc, &months)?;
         Ok(NothingHeld {
             held: Arc::new(alloc, Value::Held(held))?,

@@ -8,7 +8,7 @@ use crate::figures::Figures;
 use inter_credit::state::InterState;
 use scan_risk::Scan;
 use span_money::amounts::Money;
-use span_tables::held::Held;
+use span_tables::held::{Held, HeldRun};
 use spread_stage::months::Months;
 use spread_stage::tiers::TierState;
 
@@ -41,12 +41,12 @@ pub enum Value {
 
 impl Value {
     /// Returns the held contracts. The value must be of that kind.
-    pub fn held(&self) -> &Held
+    pub fn held(&self) -> HeldRun<'_>
         requires { IsHeld self.now }
-        ensures { result.now ≡ held_in self.now }
+        ensures { result ≡ held_in self.now }
     {
         match self {
-            Value::Held(held) => held,
+            Value::Held(held) => held.run(),
             _ => unreachable!(),
         }
     }

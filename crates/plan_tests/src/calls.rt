@@ -108,9 +108,10 @@ fn figures_handed_over(rt: &impl Abort, alloc: Global, board: Board)
     assert!(rt; numbers.eq([[1200, 13, 0, 0, 0, 0, 1200]]));
 }
 
-// The row of a whole board.
+// The row of a whole board, which runs along a copy of the course.
 fn whole_row(rt: &impl Abort, alloc: Global, job: &Arc<Job>) -> Arc<Row> {
     let course = Course::of(alloc, job.set()).expect(rt, "a course");
+    let course = course.with_own_parts(alloc).expect(rt, "a copy");
     let hold = Arc::try_clone(job).expect(rt, "a hold on the job");
     let mut memory = RunMemory::new(alloc);
     let board = Board::whole(alloc, hold, &course, &mut memory, &NoWatch).expect(

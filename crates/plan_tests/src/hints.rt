@@ -65,7 +65,7 @@ fn is_load_of_nothing(rt: &impl Abort, alloc: Global, tables: &Tables, price2: u
         price2,
     };
     let held = Held::none(alloc, tables).expect(rt, "nothing held");
-    let months = month_deltas(alloc, &held).expect(rt, "no months");
+    let months = month_deltas(alloc, &held.run()).expect(rt, "no months");
     let mut rest = Vec::new(alloc);
     add_input(rt, alloc, &mut rest, Value::Months(months));
     add_input(rt, alloc, &mut rest, Value::Scan(scan));

@@ -15,7 +15,7 @@ use inter_credit::state::{InterState, empty};
 use scan_risk::scanning::scan;
 use scan_risk::scenarios::sums;
 use span_money::line_fields::Field;
-use span_tables::held::{Held, gather_all};
+use span_tables::held::{Held, HeldRun, gather_all};
 use span_tables::portfolios::Portfolio;
 use span_tables::sides::SpreadsFormed;
 use span_tables::tables::Tables;
@@ -57,9 +57,9 @@ fn loaded_states(
     portfolio.known();
     let mut state = empty(alloc, count)?;
     for commodity in 0..count {
-        let of_commodity = &held[commodity];
-        let months = month_deltas(alloc, of_commodity)?;
-        let scan = scan(&sums(of_commodity));
+        let of_commodity = held[commodity].run();
+        let months = month_deltas(alloc, &of_commodity)?;
+        let scan = scan(&sums(&of_commodity));
         state.load(commodity, months.net(), scan.price2);
     }
     Ok(state)
@@ -91,7 +91,7 @@ fn push_month_reasons(
     ids: &[Field<'_>],
     tables: &Tables,
     commodity: usize,
-    held: &Held,
+    held: &HeldRun<'_>,
 ) -> Result<(), AllocError>
     requires { commodity < length tables.now.commodities }
     ensures { (holdings : List Holding) → held.now ≡ held_at tables.now holdings commodity → OnOk result
@@ -122,12 +122,12 @@ pub fn push_reasons(
     ensures { (holdings : List Holding) → stages.now ≡ stages_of tables.now holdings → OnOk result
         (out.new.items ≡ out.old.items ++ reasons_text ids.now (reasons_of tables.now holdings commodity)) }
 {
-    let held = &stages.held[commodity];
-    push_held(out, ids, tables, held)?;
-    push_scan(out, ids, held)?;
-    push_month_reasons(alloc, out, ids, tables, commodity, held)?;
+    let held = stages.held[commodity].run();
+    push_held(out, ids, tables, &held)?;
+    push_scan(out, ids, &held)?;
+    push_month_reasons(alloc, out, ids, tables, commodity, &held)?;
     push_inters(out, ids, commodity, tables.inters(), &stages.formed)?;
     push_credit(out, ids, &stages.state.states()[commodity])?;
-    push_short(out, ids, &tables.commodities()[commodity], held)?;
+    push_short(out, ids, &tables.commodities()[commodity], &held)?;
     Ok(())
 }

@@ -2,3 +2,4 @@ pub mod ScanLaws
 pub mod SumLemmas
 pub mod LaneLemmas
 pub mod ScanBounds
+pub mod FirstLane

@@ -1,12 +1,12 @@
 -- Lemmas about the scan.
-use Rattle.std.proofs.Common.{◌≡◌, ℕ, suc, zero, ◌+◌, ◌-◌, ◌<◌, Bool, true, false, List, [], ◌∷◌, length, get_or}
+use Rattle.std.proofs.Common.{◌≡◌, ℕ, suc, zero, ◌+◌, ◌-◌, ◌<◌, ◌≤◌, take, Bool, true, false, List, [], ◌∷◌, length, get_or}
 use Rattle.std.proofs.Common.{refl, sym, ap, ◌∙◌, arith, subst, inl, inr, Some, cond, not}
-use Rattle.std.specs.Prelude.{ℤ, pos, fold, All, ◌≤ℤ◌, ◌<ℤ◌, unwrap_or, None, int_le, nat_lt, position}
+use Rattle.std.specs.Prelude.{ℤ, pos, fold, All, Contains, ◌≤ℤ◌, ◌<ℤ◌, unwrap_or, None, int_le, nat_lt, position}
 use Rattle.std.specs.List.{position_or_len}
 use Rattle.std.specs.Int.{int_max}
-use Rattle.std.proofs.lemmas.Int.{ints, fold-int_max_bounds, fold-int_max_reached}
+use Rattle.std.proofs.lemmas.Int.{ints, int_max_is, fold-int_max_bounds, fold-int_max_reached}
 use Rattle.std.proofs.lemmas.Bool.Decides.{nat_tests}
-use Rattle.std.proofs.lemmas.List.{get_or_default}
+use Rattle.std.proofs.lemmas.List.{get_or_default, take_all}
 use Rattle.std.proofs.lemmas.List.Sums.{position_or_len_is, AllPass-from_list_all, list_all-from_AllPass}
 use Rattle.std.proofs.lemmas.List.Folds.{list_all_at}
 use Rattle.std.proofs.lemmas.List.Quantifiers.{position-Some}
@@ -22,6 +22,38 @@ scan_risk_least sums =
       λ g zero all. elim (fold-int_max_reached (pos 0) sums (scan_risk sums) refl) [
         | inl e ↦ subst (λ z. z ≤ℤ g) (sym e) zero
         | inr c ↦ subst (λ z. z ≤ℤ g) c.2 (all c.0 (scan_risk sums) c.1)
+      ],
+    )
+
+-- the larger of a number and 0
+max_above : (m : ℤ) → (pos 0 ≤ℤ int_max m (pos 0)) × (m ≤ℤ int_max m (pos 0))
+max_above m = (omega (arith, ints, int_max_is m (pos 0)), omega (arith, ints, int_max_is m (pos 0)))
+
+max_is : (m risk : ℤ) → pos 0 ≤ℤ risk → m ≤ℤ risk → risk ≤ℤ int_max m (pos 0) → risk ≡ int_max m (pos 0)
+max_is m risk above least most = omega (arith, ints, int_max_is m (pos 0))
+
+le_through : (a b c : ℤ) → a ≤ℤ b → b ≤ℤ c → a ≤ℤ c
+le_through a b c ab bc = omega (arith, ints)
+
+-- scan risk is the largest sum, or 0 if that is negative
+pub risk_from : (sums : List ℤ) (m : ℤ) → All (λ s. s ≤ℤ m) sums → Contains sums m → scan_risk sums ≡ int_max m (pos 0)
+risk_from sums m above found =
+    let risk = scan_risk_least sums in
+    let max = max_above m in
+    let least : m ≤ℤ scan_risk sums = subst (λ z. z ≤ℤ scan_risk sums) found.2 (risk.1 found.0 m found.1) in
+    max_is m (scan_risk sums) risk.0 least
+    (risk.2 (int_max m (pos 0)) max.0 (λ k d lt. le_through (get_or sums k d) m (int_max m (pos 0)) (above k d lt) max.1))
+
+-- the maximum of all sums, from the first one on
+pub largest_from : (sums : List ℤ) (i : ℕ) (m : ℤ) → 0 < length sums → length sums ≤ i
+    → m ≡ fold int_max (get_or sums 0 (pos 0)) (take i sums) → All (λ s. s ≤ℤ m) sums × Contains sums m
+largest_from sums i m some all is =
+    let first : ℤ = get_or sums 0 (pos 0) in
+    let whole : m ≡ fold int_max first sums = is ∙ ap (λ xs. fold int_max first xs) (take_all i sums all) in (
+      (fold-int_max_bounds first sums m whole).1,
+      elim (fold-int_max_reached first sums m whole) [
+        | inl e ↦ (0, some, get_or_default sums 0 m (pos 0) some ∙ sym e)
+        | inr c ↦ c
       ],
     )
 
@@ -125,3 +157,15 @@ active_from sums i lt above before =
     (λ h. largest_test sums z all) in
     let yes : nat_lt i (length sums) ≡ true = grind (arith, nat_tests, lt) in
     ap (λ j. unwrap_or (cond (nat_lt j (length sums)) (Some j) None) 0 + 1) at ∙ ap (λ b. unwrap_or (cond b (Some i) None) 0 + 1) yes
+
+lt_from : (a b : ℤ) → a ≤ℤ b → (a ≡ b → ⊥) → a <ℤ b
+lt_from a b le apart = grind (arith, ints)
+
+-- the first index of a number that is at least each sum gives the active scenario
+pub active_first : (sums : List ℤ) (m : ℤ) (i : ℕ) → i < length sums → All (λ s. s ≤ℤ m) sums
+    → get_or sums i (pos 0) ≡ m → ((k : ℕ) → k < i → get_or sums k (pos 0) ≡ m → ⊥) → active_scenario sums ≡ i + 1
+active_first sums m i lt above here before =
+    active_from sums i lt
+    (λ k h. subst (λ z. get_or sums k (pos 0) ≤ℤ z) (sym here) (above k (pos 0) h))
+    (λ k h. subst (λ z. get_or sums k (pos 0) <ℤ z) (sym here)
+    (lt_from (get_or sums k (pos 0)) m (above k (pos 0) (omega arith)) (before k h)))

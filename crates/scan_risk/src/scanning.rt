@@ -1,43 +1,53 @@
 //! The scan of sixteen scenario sums (docs/METHOD.md, Scan).
-ghost use Rattle.std.specs.Prelude.{◌≡◌, ◌*◌, ◌≤◌, ◌≤ℤ◌, ◌+ℤ◌, ◌-ℤ◌, pos, All, nat_abs};
+ghost use Rattle.std.specs.Prelude.{◌≡◌, ◌≢◌, ℕ, ◌*◌, ◌<◌, ◌≤◌, ◌≤ℤ◌, ◌+ℤ◌, ◌-ℤ◌, pos, All, Contains, nat_abs, slice_index_or};
 ghost use Rattle.span_money.specs.Numbers.{positive_part};
-ghost use Rattle.scan_risk.specs.Scenarios.{active_scenario, at_scenario, paired_scenario, price2, scan_of, scan_risk};
+ghost use Rattle.scan_risk.specs.Scenarios.{active_scenario, at_scenario, paired_scenario, price2, scan_of};
 ghost use Rattle.span_tables.specs.declared.limits.TheConstants.{MAX_PRICE2, MAX_SUM, SCENARIOS};
 
 use crate::Scan;
 use span_money::amounts::Money;
 use span_tables::limits::SCENARIOS;
+use std::simd::i64x16;
 
 // The last scenario that is paired with another one: 15 and 16 have no volatility move.
 const LAST_OF_PAIRS: u8 = 14;
 
-// Returns the largest of the sums, or 0 if none is positive, in minor units.
-fn risk(sums: &[i64; SCENARIOS]) -> i64
+// Returns the largest of the sums, in minor units.
+fn largest(sums: &[i64; SCENARIOS]) -> i64
     requires { All (λ s. nat_abs s ≤ MAX_SUM) sums.now }
-    ensures value { result ≡ scan_risk sums.now }
-    ensures above { pos 0 ≤ℤ result }
+    ensures above { All (λ s. s ≤ℤ result) sums.now }
+    ensures found { Contains sums.now result }
     ensures bound { nat_abs result ≤ MAX_SUM }
 {
-    let mut risk = 0;
+    let mut largest = sums[0];
     for sum in sums {
-        risk = risk.max(*sum);
+        largest = largest.max(*sum);
     }
-    risk
+    largest
+}
+
+// Returns the first index of a sum that is among the sums. All lanes are compared at once.
+fn first_index(sums: &[i64; SCENARIOS], sum: i64) -> u8
+    requires sizes { All (λ s. nat_abs s ≤ MAX_SUM) sums.now }
+    requires found { Contains sums.now sum }
+    ensures here { slice_index_or sums.now result (pos 0) ≡ sum }
+    ensures before { (k : ℕ) → k < result → slice_index_or sums.now k (pos 0) ≢ sum }
+    ensures within { result < SCENARIOS }
+{
+    let equal = i64x16::from_array(*sums).simd_eq(i64x16::splat(sum));
+    equal.to_bitmask().trailing_zeros() as u8
 }
 
 // Returns the lowest-numbered scenario that has the largest sum.
-fn active(sums: &[i64; SCENARIOS]) -> u8
+fn active(sums: &[i64; SCENARIOS], largest: i64) -> u8
+    requires sizes { All (λ s. nat_abs s ≤ MAX_SUM) sums.now }
+    requires above { All (λ s. s ≤ℤ largest) sums.now }
+    requires found { Contains sums.now largest }
     ensures value { result ≡ active_scenario sums.now }
     ensures low { 1 ≤ result }
     ensures high { result ≤ SCENARIOS }
 {
-    let mut best = 0;
-    for i in 1..SCENARIOS {
-        if sums[i] > sums[best] {
-            best = i;
-        }
-    }
-    best as u8 + 1
+    first_index(sums, largest) + 1
 }
 
 // Returns the scenario with the opposite volatility move: 1 with 2, up to 13 with 14; 15 and 16 with themselves.
@@ -125,8 +135,9 @@ pub fn scan(sums: &[i64; SCENARIOS]) -> Scan
     ensures paired_high { result.paired ≤ SCENARIOS }
     ensures price2_bound { result.price2 ≤ MAX_PRICE2 }
 {
-    let risk = Money::new(i128::from(risk(sums)));
-    let active = active(sums);
+    let largest = largest(sums);
+    let risk = Money::new(i128::from(largest.max(0)));
+    let active = active(sums, largest);
     let paired = paired(active);
     let price2 = price_risk_doubled(sums, active, paired);
     Scan {

@@ -7,3 +7,4 @@ pub mod ServingLemmas
 pub mod SessionLemmas
 pub mod StreamLemmas
 pub mod WordsLaws
+pub mod PieceLemmas

@@ -61,12 +61,12 @@ impl<'a, R: OpenByName> Disk<'a, R> {
         }
     }
 
-    // Opens the file of a name, unless it is a stream that was read. Keeps the name if the metadata say that it is a
-    // stream.
-    fn open(&mut self, alloc: Global, name: &str) -> Result<R::File, ReadFault>
+    // Opens the file of a name, unless it is a stream that was read, and returns it with the number of bytes that its
+    // metadata say. Keeps the name if they say that it is a stream.
+    fn open(&mut self, alloc: Global, name: &str) -> Result<(R::File, u64), ReadFault>
         ensures once { is_among self.old.streams name.now ≡ true → result ≡ Err ReadFault.Failed }
         ensures opened { IfOk result (λ opened. IsOpened (R.opens self.old.rt.now name.now)
-            self.old.streams name.now self.new.streams (λ file. file ≡ opened)) }
+            self.old.streams name.now self.new.streams (λ file. file ≡ opened.0)) }
         ensures same { IfErr result (λ _. self.new.streams ≡ self.old.streams) }
         ensures fault { result ≢ Err ReadFault.TooLong }
     {
@@ -77,7 +77,7 @@ impl<'a, R: OpenByName> Disk<'a, R> {
             return Err(ReadFault::Failed);
         };
         self.streams.keep_unless_file(alloc, name, &metadata)?;
-        Ok(file)
+        Ok((file, metadata.len()))
     }
 }
 
@@ -94,7 +94,7 @@ impl<'a, R: OpenByName> Sources for Disk<'a, R> {
         ensures too_long { result ≡ Err ReadFault.TooLong → IsOpened (R.opens self.old.rt.now name.now)
             self.old.streams name.now self.new.streams (λ file. IfSome (R.File.remaining file) (λ all. FILE_CAP < length all)) }
     {
-        let file = self.open(alloc, name)?;
-        read_file(alloc, file)
+        let (file, size) = self.open(alloc, name)?;
+        read_file(alloc, file, size)
     }
 }

@@ -1,10 +1,10 @@
 //! Reads a file to its end, up to a limit.
 ghost use Rattle.sources.specs.declared.TheConstants.{FILE_CAP};
-ghost use Rattle.std.specs.Io.KnownBytes.{IsAtEnd, ReadConsumes};
+ghost use Rattle.std.specs.Io.KnownBytes.{Consumes, IsAtEnd, Keeps, ReadConsumes};
 ghost use Rattle.std.specs.Io.{ReadsAtMost};
 ghost use Rattle.std.specs.IoError.{error_kind};
 ghost use Rattle.std.specs.Prelude.{◌+◌, ◌<◌, ◌≡◌, ◌≢◌, ◌≤◌, ◌⊎◌, Err, IfErr, IfOk};
-ghost use Rattle.std.specs.Prelude.{IfSome, OnOk, false, length, true, vec_len};
+ghost use Rattle.std.specs.Prelude.{IfSome, OnErr, OnOk, drop, false, length, take, true, vec_len};
 
 use sources::{FILE_CAP, ReadFault};
 use std::alloc::{AllocError, Global};
@@ -12,7 +12,7 @@ use std::io;
 use std::io::{ErrorKind, Read};
 use std::marker::Model;
 
-// The number of bytes that a turn asks for.
+// The maximum number of bytes that a turn asks for.
 const PIECE: usize = 65_536;
 
 // The number of turns for reading a file: one for each byte that it may have, and one for its end.
@@ -88,21 +88,47 @@ impl<R: Read> Turns<R> {
     }
 }
 
-// This number of zeros.
-fn zeros(alloc: Global, count: usize) -> Result<Vec<u8>, AllocError>
-    ensures { IfOk result (λ zeros. vec_len zeros ≡ count) }
+// Makes the bytes longer than `filled`, by zeros, for a turn that reads up to `PIECE` bytes.
+fn make_room(bytes: &mut Vec<u8>, filled: usize) -> Result<(), AllocError>
+    requires { filled ≤ vec_len bytes.old }
+    ensures front { take filled bytes.new.items ≡ take filled bytes.old.items }
+    ensures room { OnOk result (filled < vec_len bytes.new) }
 {
-    vec![in alloc; 0u8; count]
+    let capacity = bytes.capacity();
+    if filled == capacity {
+        bytes.reserve(PIECE)?;
+    }
+    let end = filled + (bytes.capacity() - filled).min(PIECE);
+    if bytes.len() < end {
+        bytes.resize(end, 0)?;
+    }
+    Ok(())
 }
 
-// The bytes of a reader, at most `cap`, read in pieces through a buffer.
+// One turn of reading into the bytes from `filled` on.
+fn read_after<R: Read>(reader: &mut Turns<R>, bytes: &mut [u8], filled: usize) -> io::Result<usize>
+    requires turns { 0 < reader.old.turns }
+    requires room { filled < length bytes.old }
+    ensures turns { reader.new.turns + 1 ≡ reader.old.turns }
+    ensures front { take filled bytes.new ≡ take filled bytes.old }
+    ensures bound { IfOk result (λ n. filled + n ≤ length bytes.new) }
+    ensures bytes { IfOk result (λ n. Consumes reader.old.bytes reader.new.bytes (take n (drop filled bytes.new))) }
+    ensures kept { OnErr result (Keeps reader.old.bytes reader.new.bytes) }
+    ensures end { IfOk result (λ n. n ≡ 0 → IsAtEnd reader.new.bytes) }
+    ensures same { OnOk result (reader.new.failed ≡ reader.old.failed) }
+    ensures interrupted { IfErr result (λ e. error_kind e ≡ ErrorKind.Interrupted
+        → reader.new.failed ≡ reader.old.failed) }
+    ensures failed { IfErr result (λ e. error_kind e ≢ ErrorKind.Interrupted → reader.new.failed ≡ true) }
+{
+    reader.read(&mut bytes[filled..])
+}
+
+// The bytes of a reader, at most `cap`, read in pieces into the room of a vector.
 fn read_pieces<R: Read>(
-    alloc: Global,
     reader: &mut Turns<R>,
-    buffer: &mut [u8],
+    mut bytes: Vec<u8>,
     cap: usize,
 ) -> Result<Vec<u8>, ReadFault>
-    requires room { 0 < length buffer.old }
     requires fresh { reader.old.failed ≡ false }
     ensures whole { IfOk result (λ bytes. IfSome reader.old.bytes (λ all. bytes.items ≡ all)) }
     ensures within { IfOk result (λ bytes. vec_len bytes ≤ cap) }
@@ -110,15 +136,19 @@ fn read_pieces<R: Read>(
     ensures too_long { result ≡ Err ReadFault.TooLong → IfSome reader.old.bytes (λ all. cap < length all) }
     ensures failed { result ≡ Err ReadFault.Failed → (reader.new.failed ≡ true) ⊎ (reader.new.turns ≡ 0) }
 {
-    let mut bytes = Vec::new(alloc);
+    let mut filled = 0;
     for turn in 0..reader.left() {
-        match reader.read(buffer) {
-            Ok(0) => return Ok(bytes),
+        if make_room(&mut bytes, filled).is_err() {
+            return Err(ReadFault::OutOfMemory);
+        }
+        match read_after(reader, bytes.as_mut_slice(), filled) {
+            Ok(0) => {
+                bytes.truncate(filled);
+                return Ok(bytes);
+            }
             Ok(n) => {
-                if bytes.extend_from_slice(&buffer[..n]).is_err() {
-                    return Err(ReadFault::OutOfMemory);
-                }
-                if bytes.len() > cap {
+                filled += n;
+                if filled > cap {
                     return Err(ReadFault::TooLong);
                 }
             }
@@ -132,11 +162,23 @@ fn read_pieces<R: Read>(
     Err(ReadFault::Failed)
 }
 
-/// Returns the bytes of a reader, at most `cap`. A reader that has not ended when its turns are used up has failed. It
-/// must have a turn for each of the bytes and one for the end.
+// The room to begin with for a file that is said to have this number of bytes: one byte more, where its end is read. The
+// number may be wrong, and it is 0 for a pipe.
+fn first_room(size: u64, cap: usize) -> usize {
+    match usize::try_from(size) {
+        Ok(0) => PIECE,
+        Ok(size) => size.min(cap).saturating_add(1),
+        Err(_) => PIECE,
+    }
+}
+
+/// Returns the bytes of a reader, at most `cap`. It is said to have `size` bytes, for which room is made at once; any other
+/// number of bytes is read as well. A reader that has not ended when its turns are used up has failed. It must have a
+/// turn for each of the bytes and one for the end.
 pub fn read_within<R: Read>(
     alloc: Global,
     reader: &mut Turns<R>,
+    size: u64,
     cap: usize,
 ) -> Result<Vec<u8>, ReadFault>
     requires turns { cap < reader.old.turns }
@@ -150,17 +192,18 @@ pub fn read_within<R: Read>(
     // Running out of memory is not a failure of the reader, and neither is an interrupted turn.
     ensures failed { result ≡ Err ReadFault.Failed → (reader.new.failed ≡ true) ⊎ (reader.new.turns ≡ 0) }
 {
-    match zeros(alloc, PIECE) {
-        Ok(mut buffer) => read_pieces(alloc, reader, buffer.as_mut_slice(), cap),
+    match Vec::with_capacity(alloc, first_room(size, cap)) {
+        Ok(bytes) => read_pieces(reader, bytes, cap),
         Err(_) => Err(ReadFault::OutOfMemory),
     }
 }
 
-/// Returns the bytes of a file, at most `FILE_CAP`. A longer file is too long.
-pub fn read_file<R: Read + Drop>(alloc: Global, reader: R) -> Result<Vec<u8>, ReadFault>
+/// Returns the bytes of a file, at most `FILE_CAP`. It is said to have `size` bytes, and may have others. A longer file is
+/// too long.
+pub fn read_file<R: Read + Drop>(alloc: Global, reader: R, size: u64) -> Result<Vec<u8>, ReadFault>
     ensures whole { IfOk result (λ bytes. IfSome (R.remaining reader) (λ all. bytes.items ≡ all)) }
     ensures within { IfOk result (λ bytes. vec_len bytes ≤ FILE_CAP) }
     ensures too_long { result ≡ Err ReadFault.TooLong → IfSome (R.remaining reader) (λ all. FILE_CAP < length all) }
 {
-    read_within(alloc, &mut Turns::new(reader, MAX_TURNS), FILE_CAP)
+    read_within(alloc, &mut Turns::new(reader, MAX_TURNS), size, FILE_CAP)
 }

@@ -1,3 +1,4 @@
+pub mod BitLemmas
 pub mod DigitLemmas
 pub mod NumberLaws
 pub mod TextLaws
@@ -8,3 +9,4 @@ pub mod ExactLaws
 pub mod ShortLaws
 pub mod OnLiterals
 pub mod LinePartLemmas
+pub mod ReciprocalLemmas

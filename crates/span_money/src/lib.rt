@@ -2,7 +2,9 @@
 #![tactic(auto)]
 
 pub mod amounts;
+pub mod bits;
 pub mod division;
+pub mod divisor;
 pub mod exact;
 pub mod laws;
 pub mod line_fields;

@@ -1,5 +1,5 @@
 -- Lists by commodity: for each commodity, the elements that name it.
-use Rattle.std.proofs.Common.{◌≡◌, ℕ, suc, zero, ◌+◌, ◌<◌, Bool, true, false, cond, not, List, [], ◌∷◌}
+use Rattle.std.proofs.Common.{◌≡◌, ℕ, suc, zero, ◌+◌, ◌<◌, ◌≤◌, Bool, true, false, cond, not, List, [], ◌∷◌}
 use Rattle.std.proofs.Common.{◌++◌, length, map, filter, get_or, set, take, refl, sym, ap, ◌∙◌, subst, arith, Decides}
 use Rattle.std.specs.Prelude.{bytes_eq, All}
 use Rattle.std.specs.List.{list_any}
@@ -119,6 +119,14 @@ pushed_list items lists n was now y lt at is =
 pub lengths : {V W Y : Type 0} (f : V → Y) (g : W → Y) (vs : List V) (ws : List W) → map f vs ≡ map g ws → length vs ≡ length ws
 lengths f g vs ws e = sym (length-map vs f) ∙ ap length e ∙ length-map ws g
 
+-- the index of a known name
+pub number_within : {C X : Type 0} (id : C → List ℕ) (key : X → List ℕ) (cs : List C) (xs : List X) (i n : ℕ) (x : X)
+    → All (λ y. place id cs (key y) < length cs) xs → i < length xs → x ≡ get_or xs i x → n ≡ place id cs (key x) → n < length cs
+number_within id key cs xs i n x known lt at there =
+    let below : place id cs (key (get_or xs i x)) < length cs = known i x lt in
+    let same : place id cs (key x) ≡ place id cs (key (get_or xs i x)) = ap (λ y. place id cs (key y)) at in
+    omega (arith, below, same, there)
+
 -- the index of a known name is an index of the lists
 pub place_within : {C X V Y : Type 0} (id : C → List ℕ) (key : X → List ℕ) (items : V → List Y) (g : C → List Y) (cs : List C)
     (xs : List X) (lists : List V) (i n : ℕ) (x : X)
@@ -126,9 +134,8 @@ pub place_within : {C X V Y : Type 0} (id : C → List ℕ) (key : X → List �
     → n ≡ place id cs (key x) → n < length lists
 place_within id key items g cs xs lists i n x is known lt at there =
     let long : length lists ≡ length cs = lengths items g lists cs is in
-    let below : place id cs (key (get_or xs i x)) < length cs = known i x lt in
-    let same : place id cs (key x) ≡ place id cs (key (get_or xs i x)) = ap (λ y. place id cs (key y)) at in
-    omega (arith, long, below, same, there)
+    let below : n < length cs = number_within id key cs xs i n x known lt at there in
+    omega (arith, long, below)
 
 module _ {C X : Type 0} (id : C → List ℕ) (key : X → List ℕ) where
   abbrev copies : List X → C → List X
@@ -152,3 +159,14 @@ module _ {C X : Type 0} (id : C → List ℕ) (key : X → List ℕ) where
 
   pub copies_none : (cs : List C) → replicate (length cs) [] ≡ map (λ c. filter (λ x. bytes_eq (key x) (id c)) []) cs
   copies_none cs = groups_none id key (λ x. x) cs
+
+-- each list is as short as the lists that they are
+pub lists_few : {V W Y : Type 0} (items : V → List Y) (g : W → List Y) (lists : List V) (ws : List W) (most : ℕ)
+    → map items lists ≡ map g ws → ((w : W) → length (g w) ≤ most) → All (λ v. length (items v) ≤ most) lists
+lists_few items g lists [] most are few k v lt =
+    let none : length lists ≡ 0 = lengths items g lists [] are in absurd (omega (arith, none, lt))
+lists_few items g lists (w ∷ ws) most are few k v lt =
+    let long : length lists ≡ length (w ∷ ws) = lengths items g lists (w ∷ ws) are in
+    let same : items (get_or lists k v) ≡ g (get_or (w ∷ ws) k w) =
+    sym (at_map items lists k v [] lt) ∙ ap (λ zs. get_or zs k []) are ∙ at_map g (w ∷ ws) k w [] (omega (arith, lt, long)) in
+    subst (λ ys. length ys ≤ most) (sym same) (few (get_or (w ∷ ws) k w))

@@ -1,17 +1,17 @@
 -- The commodities that an account holds, found in one pass over its holdings.
 use Rattle.std.proofs.Common.{◌≡◌, ◌≢◌, ℕ, ◌+◌, ◌<◌, Bool, true, false, eqb, List, [], ◌∷◌, ◌++◌, length, length-append}
 use Rattle.std.proofs.Common.{set, get_or, get_or-set_other, get_or-set_same, take, refl, sym, ap, ◌∙◌, arith}
-use Rattle.std.specs.Prelude.{IfSome, nat_lt, not, slice_get}
+use Rattle.std.specs.Prelude.{nat_lt, not}
 use Rattle.std.specs.List.{list_all}
 use Rattle.std.proofs.lemmas.Bool.Decides.{nat_tests}
 use Rattle.std.proofs.lemmas.List.{append-nil}
-use Rattle.span_tables.specs.Accepted.{IsWithinLimits, commodity_number}
+use Rattle.span_tables.specs.Accepted.{IsWithinLimits}
 use Rattle.span_tables.specs.Tables.{commodity_id}
 use Rattle.span_tables.specs.Holdings.{ArePortfolio}
 use Rattle.span_tables.specs.Net.{held_of}
 use Rattle.span_tables.specs.Tables.{AcceptedTables}
 use Rattle.span_tables.specs.declared.portfolios.Holding.{Holding}
-use Rattle.span_tables.specs.near.Gathered.{holdings_in}
+use Rattle.span_tables.specs.near.Gathered.{holdings_in, number_held}
 use Rattle.span_tables.proofs.HeldLemmas.{are_holdings, held_in, length_held}
 use Rattle.span_tables.proofs.RunLemmas.{one_more}
 
@@ -33,19 +33,18 @@ AreFlags t hs flags =
 -- one more holding, of commodity number n
 module _ (t : AcceptedTables) (limits : IsWithinLimits t) (gs : List Holding) (i n : ℕ) (d : Holding) (lt : i < length gs)
     (known : (get_or gs i d).contract < length t.contracts)
-    (told : IfSome (slice_get t.contracts (get_or gs i d).contract) (λ x. n ≡ commodity_number t.commodities x.commodity))
-    (flags : List Bool) (inside : n < length flags) (now : AreFlags t (take i gs) flags) where
+    (told : n ≡ number_held t (get_or gs i d)) (flags : List Bool) (inside : n < length flags) (now : AreFlags t (take i gs) flags) where
   flag_after : (c : ℕ) (b : Bool) → c < length t.commodities → eqb n c ≡ b
       → get_or (set flags n true) c false ≡ has_some (holdings_in t.contracts (take (i + 1) gs) (commodity_id t c))
   flag_after c true below is =
       let here : n ≡ c = grind (arith, nat_tests) in
       ap (λ m. get_or (set flags n true) m false) (sym here) ∙ get_or-set_same flags n true false inside
       ∙ sym (has_some-push (holdings_in t.contracts (take i gs) (commodity_id t c)) (get_or gs i d))
-      ∙ ap has_some (sym (one_more t gs i n d limits lt known told c true below is))
+      ∙ ap has_some (sym (one_more t limits gs i n d lt known told c true below is))
   flag_after c false below is =
       let apart : c ≢ n = grind (arith, nat_tests) in
       get_or-set_other flags n c true false apart ∙ now c below
-      ∙ ap has_some (sym (one_more t gs i n d limits lt known told c false below is
+      ∙ ap has_some (sym (one_more t limits gs i n d lt known told c false below is
       ∙ append-nil (holdings_in t.contracts (take i gs) (commodity_id t c))))
 
   pub flags_after : AreFlags t (take (i + 1) gs) (set flags n true)

@@ -14,7 +14,10 @@ use Rattle.span_tables.specs.Tables.{AcceptedTables}
 use Rattle.span_tables.specs.declared.limits.TheConstants.{MAX_HELD, MAX_NET}
 use Rattle.span_tables.specs.declared.portfolios.Holding.{Holding}
 use Rattle.span_tables.specs.declared.records.Contract.{Contract}
+use Rattle.span_tables.specs.declared.contracts.Terms.{Terms}
 use Rattle.span_tables.specs.near.Gathered.{commodity_held, holdings_in}
+use Rattle.span_tables.specs.near.Terms.{AreTermsOf, IsTerms}
+use Rattle.span_tables.proofs.TermLemmas.{terms_in_range}
 
 and_true : (a b : Bool) → (a && b) ≡ true → (a ≡ true) × (b ≡ true)
 and_true true b e = (refl, e)
@@ -35,7 +38,7 @@ get_some (y ∷ ys) zero x lt is = ap Some (sym is)
 get_some (y ∷ ys) (suc k) x lt is = get_some ys k x (omega arith) is
 
 -- an index below the length of a list has an element
-there : {X : Type 0} (xs : List X) (k : ℕ) → k < length xs → (x : X) × (slice_get xs k ≡ Some x)
+pub there : {X : Type 0} (xs : List X) (k : ℕ) → k < length xs → (x : X) × (slice_get xs k ≡ Some x)
 there [] k lt = absurd (omega arith)
 there (y ∷ ys) zero lt = (y, refl)
 there (y ∷ ys) (suc k) lt = there ys k (omega arith)
@@ -128,9 +131,21 @@ module _ (contracts : List Contract) where
         → IfSome (slice_get ks place) (λ held. x ≡ held.contract)
     contract_told h x at is = subst (λ (o : Option HeldContract). IfSome o (λ held. x ≡ held.contract)) (sym (at_place h x at is)) refl
 
-    pub contract_kept : (h : Holding) (x : Contract) → h ≡ get_or hs place h → x ≡ get_or contracts h.contract x → IsContract x
-    contract_kept h x at is =
-        subst IsContract (sym is) (are.in_range h.contract x (place_known h at))
+    -- a property of the contract of a holding is one of its held contract
+    pub of_contract : (P : Contract → Type 0) (h : Holding) → h ≡ get_or hs place h → IfSome (slice_get contracts h.contract) P
+        → IfSome (slice_get ks place) (λ held. P held.contract)
+    of_contract P h at is =
+        let x = there contracts h.contract (place_known h at) in
+        subst (λ (o : Option HeldContract). IfSome o (λ held. P held.contract))
+        (sym (at_place h x.0 at (found contracts h.contract x.0 x.1)))
+        (subst (λ (o : Option Contract). IfSome o P) x.1 is)
+
+    pub terms_kept : (t : Terms) (h : Holding) → h ≡ get_or hs place h
+        → IfSome (slice_get contracts h.contract) (λ x. AreTermsOf x t) → IsTerms t
+    terms_kept t h at is =
+        let x = there contracts h.contract (place_known h at) in
+        terms_in_range x.0 t (get_passes IsContract contracts h.contract x.0 are.in_range x.1)
+        (subst (λ (o : Option Contract). IfSome o (λ y. AreTermsOf y t)) x.1 is)
 
     pub net_told : (h : Holding) → h ≡ get_or hs place h → IfSome (slice_get ks place) (λ held. h.net ≡ held.net)
     net_told h at =
@@ -192,10 +207,10 @@ are_holdings t hs commodity limits portfolio all =
       in_range = limits.contracts_in_range;
     }
 
--- the held contract at an index, given by its record and its net
-pub held_here : (held : List HeldContract) (i : ℕ) (x : Contract) (n : ℤ) → i < length held
-    → IfSome (slice_get held i) (λ h. x ≡ h.contract) → IfSome (slice_get held i) (λ h. n ≡ h.net)
-    → record { contract = x; net = n } ≡ get_or held i (record { contract = x; net = n })
-held_here [] i x n lt contract net = absurd (omega arith)
-held_here (h ∷ hs) zero x n lt contract net = λ j. record { contract = contract j; net = net j }
-held_here (h ∷ hs) (suc i) x n lt contract net = held_here hs i x n (omega arith) contract net
+-- the held contract at an index, given by its terms and its net
+pub held_here : (held : List HeldContract) (i : ℕ) (t : Terms) (n : ℤ) → i < length held
+    → IfSome (slice_get held i) (λ h. AreTermsOf h.contract t) → IfSome (slice_get held i) (λ h. n ≡ h.net)
+    → (h : HeldContract) × (h ≡ get_or held i h) × AreTermsOf h.contract t × (n ≡ h.net)
+held_here [] i t n lt terms net = absurd (omega arith)
+held_here (h ∷ hs) zero t n lt terms net = (h, refl, terms, net)
+held_here (h ∷ hs) (suc i) t n lt terms net = held_here hs i t n (omega arith) terms net

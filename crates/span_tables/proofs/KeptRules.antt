@@ -83,7 +83,7 @@ pub of_kind : {Y : Type 0} (h : Record → Option Y) (P : Y → Type 0) (Q : Rec
 of_kind h P Q each [] all = All-nil P
 of_kind h P Q each (r ∷ rs) all = next_of P (h r) (filter_map h rs) (each r all.0) (of_kind h P Q each rs all.1)
 
-none_any : {Y : Type 0} (p : Y → Bool) (ys : List Y) → list_any p ys ≡ false → All (λ y. p y ≡ false) ys
+pub none_any : {Y : Type 0} (p : Y → Bool) (ys : List Y) → list_any p ys ≡ false → All (λ y. p y ≡ false) ys
 none_any p [] e = All-nil (λ y. p y ≡ false)
 none_any p (y ∷ ys) e = let h = or_false (p y) (list_any p ys) e in All-cons (λ y. p y ≡ false) y ys h.0 (none_any p ys h.1)
 

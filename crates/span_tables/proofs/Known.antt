@@ -1,9 +1,9 @@
 -- Each commodity that a record names is a commodity of the file.
-use Rattle.std.proofs.Common.{◌≡◌, ℕ, suc, ◌+◌, ◌<◌, Bool, true, false, cond, eqb}
-use Rattle.std.proofs.Common.{ltb, not, Option, List, [], ◌∷◌, length, map, refl, ap, ◌∙◌, arith}
+use Rattle.std.proofs.Common.{◌≡◌, ℕ, ◌<◌, false, eqb}
+use Rattle.std.proofs.Common.{not, Option, List, [], ◌∷◌, length, map, refl, ap, ◌∙◌, arith}
 use Rattle.std.specs.Prelude.{All, MatchOption, ◌||◌, ◌==◌, bytes_eq, filter_map}
 use Rattle.std.specs.List.{AllByRecursion, list_any}
-use Rattle.std.proofs.lemmas.Bool.Decides.{nat_tests}
+use Rattle.std.proofs.lemmas.Bool.{not-false}
 use Rattle.std.proofs.lemmas.List.Elements.{All-nil, All-cons, All-head, All-tail}
 use Rattle.span_tables.specs.Accepted.{commodity_number}
 use Rattle.span_tables.specs.Names.{has_repeat}
@@ -17,39 +17,18 @@ use Rattle.span_tables.specs.declared.records.Record.{Record}
 use Rattle.span_tables.specs.declared.records.Record.TheVariants as record_of
 use Rattle.span_tables.proofs.KeptRules.{of_kind}
 use Rattle.span_tables.proofs.Places.{name_at, or_false, place_key, place_names}
+use Rattle.span_tables.proofs.TierLists.{position_known}
 
 -- a name is the name of a commodity
 abbrev pub IsKnown : List Commodity → List ℕ → Type 0
 IsKnown cs name = commodity_number cs name < length cs
-
-known_if : (b : Bool) (more : ℕ) (n : ℕ) → (b || ltb more n) ≡ true → cond (not b) (1 + more) 0 < suc n
-known_if true more n e = omega arith
-known_if false more n e = let lt : more < n = grind (arith, nat_tests) in omega (arith, lt)
-
-step_any : (b c d : Bool) → (c ≡ true → d ≡ true) → (b || c) ≡ true → (b || d) ≡ true
-step_any true c d f e = refl
-step_any false c d f e = f e
-
-within_true : (m n : ℕ) → m < n → ltb m n ≡ true
-within_true m n lt = grind (arith, nat_tests)
-
-known_name : (cs : List Commodity) (name : List ℕ) → list_any (λ c. bytes_eq c.id name) cs ≡ true → IsKnown cs name
-known_name [] name e = cc
-known_name (c ∷ cs) name e =
-    known_if (bytes_eq c.id name) (commodity_number cs name) (length cs)
-    (step_any (bytes_eq c.id name) (list_any (λ d. bytes_eq d.id name) cs) (ltb (commodity_number cs name) (length cs))
-    (λ more. within_true _ _ (known_name cs name more)) e)
-
-not_false : (b : Bool) → not b ≡ false → b ≡ true
-not_false true e = refl
-not_false false e = cc
 
 names_known : (cs : List Commodity) (names : List (List ℕ))
     → list_any (λ name. not (list_any (λ c. bytes_eq c.id name) cs)) names ≡ false → All (IsKnown cs) names
 names_known cs [] e = All-nil (IsKnown cs)
 names_known cs (name ∷ names) e =
     let h = or_false (not (list_any (λ c. bytes_eq c.id name) cs)) (list_any (λ n. not (list_any (λ c. bytes_eq c.id n) cs)) names) e in
-    All-cons (IsKnown cs) name names (known_name cs name (not_false _ h.0)) (names_known cs names h.1)
+    All-cons (IsKnown cs) name names (position_known (λ c. bytes_eq c.id name) cs (not-false _ h.0)) (names_known cs names h.1)
 
 -- the commodities that a record names are known
 abbrev pub NamesKnown : List Commodity → Record → Type 0

@@ -7,6 +7,7 @@ pub mod SlotLemmas
 pub mod TierLemmas
 mod LegSlots
 pub mod Places
+pub mod TermLemmas
 pub mod HeldLemmas
 pub mod StableSort
 pub mod KindLemmas
@@ -16,6 +17,7 @@ pub mod KeptRules
 pub mod Ranges
 pub mod Counts
 pub mod Known
+pub mod TierLists
 pub mod WithinLimits
 pub mod TablesMade
 pub mod NameLaws

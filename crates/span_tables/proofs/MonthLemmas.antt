@@ -40,24 +40,31 @@ same_spread tiers s =
     (same_leg tiers s.commodity) s.legs.items in
     ap (λ (ms : List MonthLeg). (let r : Intra = record { priority = s.priority; rate = s.rate; legs = ms } in r)) legs
 
+-- the list at the number of a commodity has its tiers
+pub tiers_listed : {V : Type 0} (items : V → List Tier) (cs : List Commodity) (tiers : List Tier) (lists : List V) (n : ℕ) (v : V)
+    (name : List ℕ)
+    → map items lists ≡ map (λ c. filter (λ t. bytes_eq t.commodity c.id) tiers) cs → n ≡ commodity_number cs name
+    → n < length lists → v ≡ get_or lists n v
+    → items v ≡ filter (λ t. bytes_eq t.commodity name) tiers
+tiers_listed items [] tiers lists n v name are at lt is =
+    let none : length lists ≡ 0 = lengths items (λ (c : Commodity). filter (λ t. bytes_eq t.commodity c.id) tiers) lists [] are in
+    absurd (omega arith)
+tiers_listed items (c ∷ cs) tiers lists n v name are at lt is =
+    let long : length lists ≡ length (c ∷ cs) =
+    lengths items (λ (d : Commodity). filter (λ t. bytes_eq t.commodity d.id) tiers) lists (c ∷ cs) are in
+    let within : n < length (c ∷ cs) = omega (arith, long) in
+    let placed : commodity_number (c ∷ cs) name < length (c ∷ cs) = subst (λ m. m < length (c ∷ cs)) at within in
+    let same : (get_or (c ∷ cs) n c).id ≡ name = ap (λ m. (get_or (c ∷ cs) m c).id) at
+    ∙ place_key (λ (d : Commodity). d.id) (c ∷ cs) name c placed in
+    ap items is ∙ sym (at_map items lists n v [] lt) ∙ ap (λ zs. get_or zs n []) are
+    ∙ at_map (λ (d : Commodity). filter (λ t. bytes_eq t.commodity d.id) tiers) (c ∷ cs) n c [] within
+    ∙ ap (λ m. filter (λ t. bytes_eq t.commodity m) tiers) same
+
 -- the tiers of a spread's own commodity give the same months as all tiers
 pub tiers_found : {V : Type 0} (items : V → List Tier) (cs : List Commodity) (tiers : List Tier) (lists : List V) (n : ℕ) (v : V)
     (s : IntraRecord)
     → map items lists ≡ map (λ c. filter (λ t. bytes_eq t.commodity c.id) tiers) cs → n ≡ commodity_number cs s.commodity
     → n < length lists → v ≡ get_or lists n v
     → intra_spread (items v) s ≡ intra_spread tiers s
-tiers_found items [] tiers lists n v s are at lt is =
-    let none : length lists ≡ 0 = lengths items (λ (c : Commodity). filter (λ t. bytes_eq t.commodity c.id) tiers) lists [] are in
-    absurd (omega arith)
-tiers_found items (c ∷ cs) tiers lists n v s are at lt is =
-    let long : length lists ≡ length (c ∷ cs) =
-    lengths items (λ (d : Commodity). filter (λ t. bytes_eq t.commodity d.id) tiers) lists (c ∷ cs) are in
-    let within : n < length (c ∷ cs) = omega (arith, long) in
-    let placed : commodity_number (c ∷ cs) s.commodity < length (c ∷ cs) = subst (λ m. m < length (c ∷ cs)) at within in
-    let name : (get_or (c ∷ cs) n c).id ≡ s.commodity = ap (λ m. (get_or (c ∷ cs) m c).id) at
-    ∙ place_key (λ (d : Commodity). d.id) (c ∷ cs) s.commodity c placed in
-    let kept : items v ≡ filter (λ t. bytes_eq t.commodity s.commodity) tiers =
-    ap items is ∙ sym (at_map items lists n v [] lt) ∙ ap (λ zs. get_or zs n []) are
-    ∙ at_map (λ (d : Commodity). filter (λ t. bytes_eq t.commodity d.id) tiers) (c ∷ cs) n c [] within
-    ∙ ap (λ m. filter (λ t. bytes_eq t.commodity m) tiers) name in
-    ap (λ ts. intra_spread ts s) kept ∙ same_spread tiers s
+tiers_found items cs tiers lists n v s are at lt is =
+    ap (λ ts. intra_spread ts s) (tiers_listed items cs tiers lists n v s.commodity are at lt is) ∙ same_spread tiers s

@@ -1,32 +1,23 @@
--- The holdings of each held commodity, gathered from runs of holdings of one commodity.
+-- The holdings of a commodity among an account's holdings, and runs of holdings of one commodity.
 use Rattle.std.proofs.Common.{◌≡◌, ◌≢◌, ℕ, suc, zero, ◌+◌, ◌-◌, ◌<◌, ◌≤◌, Bool, true, false, cond, eqb, List, [], ◌∷◌}
-use Rattle.std.proofs.Common.{◌++◌, length, length-append, length-set, map, filter, get_or, get_or-set_other}
-use Rattle.std.proofs.Common.{get_or-set_same, replicate, set, take, drop, refl, sym, ap, ◌∙◌, subst, arith, inl, inr}
-use Rattle.std.specs.Prelude.{All, IfSome, bytes_eq, option_map, slice_get, unwrap_or}
-use Rattle.std.specs.List.{AllPairs, AllWithin, insert, slice_range}
+use Rattle.std.proofs.Common.{◌++◌, length, length-append, length-drop, drop, filter, get_or, take, refl, sym, ap, ◌∙◌}
+use Rattle.std.proofs.Common.{subst, arith, inl, inr}
+use Rattle.std.specs.Prelude.{All, bytes_eq}
+use Rattle.std.specs.List.{AllWithin, slice_range}
 use Rattle.std.specs.List.Sorted.{IsNonDecreasingBy}
 use Rattle.std.proofs.lemmas.Bool.{cases_eq, cases_lt}
 use Rattle.std.proofs.lemmas.Bool.Decides.{nat_tests}
-use Rattle.std.proofs.lemmas.List.{append-nil, drop-take, get_or-map, get_or-replicate, get_or_default, length-map}
-use Rattle.std.proofs.lemmas.List.{length-replicate, take-append-drop, take-take, take_more}
-use Rattle.std.proofs.lemmas.List.Edits.{get_or-between, get_or-insert_above, get_or-insert_at, get_or-insert_below}
-use Rattle.std.proofs.lemmas.List.Edits.{length-between, length-insert}
-use Rattle.std.proofs.lemmas.List.Elements.{All-append, All-cons, All-drop, All-head, All-map, All-nil, All-tail}
-use Rattle.std.proofs.lemmas.List.Elements.{All-take, filter-append}
-use Rattle.std.proofs.lemmas.List.Kept.{AllPairs-cons}
+use Rattle.std.proofs.lemmas.List.{append-nil, get_or-append-add, get_or_append_left, get_or-drop, get_or_default, take_more}
+use Rattle.std.proofs.lemmas.List.Folds.{drop_split}
+use Rattle.std.proofs.lemmas.List.Edits.{get_or-between, length-between}
+use Rattle.std.proofs.lemmas.List.Elements.{All-cons, All-head, All-nil, All-tail, filter-append}
 use Rattle.span_tables.specs.Accepted.{IsWithinLimits, commodity_number}
-use Rattle.span_tables.specs.Tables.{commodity_id}
-use Rattle.span_tables.specs.near.HeldCommodities.{AreHeldCommodities}
-use Rattle.span_tables.specs.Holdings.{AreHoldings, ArePortfolio, fits}
-use Rattle.span_tables.specs.Net.{HeldContract, held_contracts, held_of}
-use Rattle.span_tables.specs.Tables.{AcceptedTables}
-use Rattle.span_tables.specs.declared.held.CommodityHeld.{CommodityHeld}
-use Rattle.span_tables.specs.declared.held.HoldingsOf.{HoldingsOf}
+use Rattle.span_tables.specs.Tables.{AcceptedTables, commodity_id}
 use Rattle.span_tables.specs.declared.portfolios.Holding.{Holding}
 use Rattle.span_tables.specs.declared.records.Commodity.{Commodity}
-use Rattle.span_tables.specs.near.Gathered.{AreGathered, IsOf, commodity_held, commodity_held_of, holdings_in}
-use Rattle.span_tables.proofs.GatherLemmas.{known_at}
-use Rattle.span_tables.proofs.HeldLemmas.{are_holdings, held_in, length_held}
+use Rattle.span_tables.specs.near.Gathered.{commodity_held, holdings_in, number_held}
+use Rattle.span_tables.specs.near.Runs.{AreByCommodity, AreLeft, IsNextRun}
+use Rattle.span_tables.proofs.HeldLemmas.{there}
 use Rattle.span_tables.proofs.Places.{place_names}
 
 -- a filter keeps all elements of a run, or none
@@ -39,85 +30,12 @@ filter_alike p true (x ∷ xs) all =
 filter_alike p false (x ∷ xs) all =
     rw (All-head (λ y. p y ≡ false) x xs all) (filter_alike p false xs (All-tail (λ y. p y ≡ false) x xs all))
 
--- a prefix is a shorter prefix and the elements between the two ends
-pub take_range : {X : Type 0} (xs : List X) (start end : ℕ) → start ≤ end → take end xs ≡ take start xs ++ slice_range xs start end
-take_range xs start end le =
-    let far : start + (end - start) ≡ end = omega arith in
-    let before : start ≤ start + (end - start) = omega arith in
-    ap (λ n. take n xs) (sym far) ∙ sym (take-append-drop start (take (start + (end - start)) xs))
-    ∙ ap (λ ys. ys ++ drop start (take (start + (end - start)) xs)) (take-take start (start + (end - start)) xs before)
-    ∙ ap (λ ys. take start xs ++ ys) (drop-take start (end - start) xs)
-
--- replacing one element of a list, and inserting one
-module _ {X : Type 0} (P : X → Type 0) where
-  set_each : (xs : List X) (p : ℕ) (y : X) → P y → ((k : ℕ) (d : X) → k < length xs → k ≢ p → P (get_or xs k d)) → All P (set xs p y)
-  set_each xs p y is others k d lt =
-      let long = length-set xs p y in
-      elim (cases_eq k p) [
-        | inl same ↦ subst (λ (j : ℕ). P (get_or (set xs p y) j d)) (sym same)
-            (subst P (sym (get_or-set_same xs p y d (omega (arith, lt, long, same)))) is)
-        | inr other ↦ subst P (sym (get_or-set_other xs p k y d other)) (others k d (omega (arith, lt, long)) other)
-      ]
-
-  insert_each : (xs : List X) (p : ℕ) (y : X) → P y → All P xs → All P (insert xs p y)
-  insert_each xs p y is all =
-      All-append P (take p xs) (y ∷ drop p xs) (All-take P p xs all) (All-cons P y (drop p xs) is (All-drop P p xs all))
-
-left_of_insert : {X : Type 0} (P : X → Type 0) (xs : List X) (p : ℕ) (y : X) → p ≤ length xs → All P (insert xs p y) → All P xs
-left_of_insert P xs p y le all k d lt =
-    let long = length-insert xs p y le in
-    elim (cases_lt k p) [
-      | inl less ↦ subst P (get_or-insert_below xs p y d k less le) (all k d (omega (arith, lt, long)))
-      | inr most ↦ subst P (get_or-insert_above xs p y d k most le) (all (k + 1) d (omega (arith, lt, long)))
-    ]
-
-pairs_insert : {X : Type 0} (R : X → X → Type 0) (xs : List X) (p : ℕ) (y : X) → p ≤ length xs → AllPairs R xs
-    → AllWithin (λ x. R x y) xs 0 p → AllWithin (R y) xs p (length xs) → AllPairs R (insert xs p y)
-pairs_insert R xs zero y le pairs below above = AllPairs-cons R y xs (λ k d lt. above k d (omega arith) lt) pairs
-pairs_insert R [] (suc p) y le pairs below above = absurd (omega (arith, le))
-pairs_insert R (x ∷ xs) (suc p) y le pairs below above =
-    AllPairs-cons R x (insert xs p y)
-    (insert_each (R x) xs p y (below zero x (omega arith) (omega arith))
-    (λ k d lt. pairs zero (suc k) d (omega arith) (omega (arith, lt))))
-    (pairs_insert R xs p y (omega (arith, le)) (λ i j d less lt. pairs (suc i) (suc j) d (omega (arith, less)) (omega (arith, lt)))
-    (λ k d low high. below (suc k) d (omega arith) (omega (arith, high)))
-    (λ k d low high. above (suc k) d (omega (arith, low)) (omega (arith, high))))
-
-pairs_map : {X Y : Type 0} (R : Y → Y → Type 0) (f : X → Y) (xs : List X) → AllPairs (λ a b. R (f a) (f b)) xs → AllPairs R (map f xs)
-pairs_map R f [] pairs = λ i j d less lt. absurd (omega (arith, lt))
-pairs_map R f (x ∷ xs) pairs =
-    AllPairs-cons R (f x) (map f xs)
-    (All-map (R (f x)) f xs (λ k d lt. pairs zero (suc k) d (omega arith) (omega (arith, lt))))
-    (pairs_map R f xs (λ i j d less lt. pairs (suc i) (suc j) d (omega (arith, less)) (omega (arith, lt))))
-
--- rising commodity numbers that are at least n from index p on are above n there, if the number at p is not n
-module _ (lists : List HoldingsOf) (n p : ℕ) (rise : AllPairs (λ a b. a.commodity < b.commodity) lists) where
-  pub not_falling : IsNonDecreasingBy (λ l. l.commodity) lists
-  not_falling i j d le lt = elim (cases_eq i j) [
-    | inl same ↦ let alike = ap (λ (k : ℕ). (get_or lists k d).commodity) same in omega (arith, alike)
-    | inr other ↦ let up = rise i j d (omega (arith, le, other)) lt in omega (arith, up)
-  ]
-
-  pub above_place : AllWithin (λ l. n ≤ l.commodity) lists p (length lists)
-      → ((d : HoldingsOf) → p < length lists → (get_or lists p d).commodity ≢ n)
-      → AllWithin (λ l. n < l.commodity) lists p (length lists)
-  above_place most other k d from lt =
-      let at : n ≤ (get_or lists p d).commodity = most p d (omega arith) (omega (arith, from, lt)) in
-      let differs = other d (omega (arith, from, lt)) in
-      elim (cases_eq k p) [
-        | inl same ↦ let alike = ap (λ (j : ℕ). (get_or lists j d).commodity) same in omega (arith, alike, at, differs)
-        | inr later ↦ let up = rise p k d (omega (arith, from, later)) lt in omega (arith, up, at)
-      ]
-
--- a look-up of a contract's commodity gives the commodity of its holding
-pub is_of_number : (t : AcceptedTables) (hs : List Holding) (k n r : ℕ) (d e : Holding) → k < length hs
-    → (get_or hs k d).contract < length t.contracts
-    → IfSome (slice_get t.contracts (get_or hs k d).contract) (λ x. r ≡ commodity_number t.commodities x.commodity) → r ≡ n
-    → IsOf t n (get_or hs k e)
-is_of_number t hs k n r d e lt known told is =
-    sym is
-    ∙ known_at t.contracts (get_or hs k d).contract (λ x. x.commodity) (λ name. r ≡ commodity_number t.commodities name) known told
-    ∙ ap (λ h. commodity_number t.commodities (commodity_held t.contracts h)) (get_or_default hs k d e lt)
+-- two tests that agree at each element of a list keep the same elements of it
+pub filter_same : {X : Type 0} (p q : X → Bool) (xs : List X) → All (λ x. p x ≡ q x) xs → filter p xs ≡ filter q xs
+filter_same p q [] all = refl
+filter_same p q (x ∷ xs) all =
+    rw (All-head (λ y. p y ≡ q y) x xs all)
+    (ap (λ ys. cond (q x) (x ∷ ys) ys) (filter_same p q xs (All-tail (λ y. p y ≡ q y) x xs all)))
 
 -- a property of the element at an index and of the elements up to another index is a property of the range
 pub all_between : {X : Type 0} (P : X → Type 0) (xs : List X) (start end : ℕ) → end ≤ length xs → ((d : X) → P (get_or xs start d))
@@ -130,223 +48,212 @@ all_between P xs start end le first more k d lt =
       | inr some ↦ more (start + k) d (omega (arith, some)) inside
     ])
 
--- a run of holdings of commodity number n, appended to other holdings
-module _ (t : AcceptedTables) (limits : IsWithinLimits t) (hs run : List Holding) (n : ℕ) (of : All (IsOf t n) run) where
-  tells : (d : ℕ) → d < length t.commodities
-      → All (λ h. bytes_eq (commodity_held t.contracts h) (commodity_id t d) ≡ eqb n d) run
-  tells d below k e lt =
-      sym (ap (λ m. eqb m d) (of k e lt)
-      ∙ place_names (λ (c : Commodity). c.id) t.commodities (commodity_held t.contracts (get_or run k e)) d limits.commodities_apart below)
+-- the commodity number of the holding at an index, as it is read
+pub number_here : (t : AcceptedTables) (hs : List Holding) (k n r : ℕ) (d e : Holding) → k < length hs
+    → r ≡ number_held t (get_or hs k d) → r ≡ n → number_held t (get_or hs k e) ≡ n
+number_here t hs k n r d e lt told is = ap (number_held t) (get_or_default hs k e d lt) ∙ sym told ∙ is
 
-  with_run : (d : ℕ) (b : Bool) → d < length t.commodities → eqb n d ≡ b
-      → holdings_in t.contracts (hs ++ run) (commodity_id t d) ≡ holdings_in t.contracts hs (commodity_id t d) ++ cond b run []
-  with_run d b below is =
-      let test : Holding → Bool = λ h. bytes_eq (commodity_held t.contracts h) (commodity_id t d) in
-      filter-append test hs run
-      ∙ ap (λ gs. filter test hs ++ gs) (filter_alike test (eqb n d) run (tells d below))
-      ∙ ap (λ c. filter test hs ++ cond c run []) is
+module _ (t : AcceptedTables) (limits : IsWithinLimits t) where
+  pub number_by_id : (h : Holding) → h.contract < length t.contracts
+      → number_held t h ≡ commodity_number t.commodities (commodity_held t.contracts h)
+  number_by_id h lt = let x = there t.contracts h.contract lt in rw x.1 refl
 
-  -- a run of a commodity is appended to the holdings of that commodity
-  here : n < length t.commodities
-      → holdings_in t.contracts (hs ++ run) (commodity_id t n) ≡ holdings_in t.contracts hs (commodity_id t n) ++ run
-  here below = let same : eqb n n ≡ true = grind (arith, nat_tests) in with_run n true below same
+  -- whether a holding is of a commodity, by number
+  pub is_of : (h : Holding) (c : ℕ) → h.contract < length t.contracts → c < length t.commodities
+      → bytes_eq (commodity_held t.contracts h) (commodity_id t c) ≡ eqb (number_held t h) c
+  is_of h c lt below =
+      sym (ap (λ m. eqb m c) (number_by_id h lt)
+      ∙ place_names (λ (x : Commodity). x.id) t.commodities (commodity_held t.contracts h) c limits.commodities_apart below)
 
-  -- a run of a commodity adds nothing to the holdings of another commodity
-  there : (d : ℕ) → d < length t.commodities → d ≢ n
-      → holdings_in t.contracts (hs ++ run) (commodity_id t d) ≡ holdings_in t.contracts hs (commodity_id t d)
-  there d below apart =
-      let other : eqb n d ≡ false = grind (arith, nat_tests) in
-      with_run d false below other ∙ append-nil (holdings_in t.contracts hs (commodity_id t d))
+  -- one more holding, of commodity number n; b says whether n is c
+  pub one_more : (gs : List Holding) (i n : ℕ) (d : Holding) → i < length gs → (get_or gs i d).contract < length t.contracts
+      → n ≡ number_held t (get_or gs i d) → (c : ℕ) (b : Bool) → c < length t.commodities → eqb n c ≡ b
+      → holdings_in t.contracts (take (i + 1) gs) (commodity_id t c)
+      ≡ holdings_in t.contracts (take i gs) (commodity_id t c) ++ cond b (get_or gs i d ∷ []) []
+  one_more gs i n d lt known told c b below is =
+      let h = get_or gs i d in
+      let test : Holding → Bool = λ x. bytes_eq (commodity_held t.contracts x) (commodity_id t c) in
+      let here : test h ≡ b = is_of h c known below ∙ ap (λ m. eqb m c) (sym told) ∙ is in
+      ap (filter test) (take_more gs i d lt) ∙ filter-append test (take i gs) (h ∷ [])
+      ∙ ap (λ hs. filter test (take i gs) ++ hs)
+      (filter_alike test b (h ∷ []) (All-cons (λ x. test x ≡ b) h [] here (All-nil (λ x. test x ≡ b))))
 
-  module _ (known : n < length t.commodities) (lists : List HoldingsOf) (before : AreGathered t hs lists) where
-    -- the list of another commodity is unchanged
-    as_was : (l : HoldingsOf) → l.commodity < length t.commodities → l.commodity ≢ n
-        → l.holdings.items ≡ holdings_in t.contracts hs (commodity_id t l.commodity)
-        → l.holdings.items ≡ holdings_in t.contracts (hs ++ run) (commodity_id t l.commodity)
-    as_was l below other is = is ∙ sym (there l.commodity below other)
+  -- holdings that are all of commodity c, or none of them
+  alike : (c : ℕ) (b : Bool) (hs : List Holding) → c < length t.commodities → All (λ h. h.contract < length t.contracts) hs
+      → All (λ h. eqb (number_held t h) c ≡ b) hs → holdings_in t.contracts hs (commodity_id t c) ≡ cond b hs []
+  alike c b hs below known all =
+      filter_alike (λ h. bytes_eq (commodity_held t.contracts h) (commodity_id t c)) b hs
+      (λ k d lt. is_of (get_or hs k d) c (known k d lt) below ∙ all k d lt)
 
-    -- an entry with commodity number n has the holdings of the commodity that it names
-    named : (y : HoldingsOf) → y.commodity ≡ n → y.holdings.items ≡ holdings_in t.contracts (hs ++ run) (commodity_id t n)
-        → y.holdings.items ≡ holdings_in t.contracts (hs ++ run) (commodity_id t y.commodity)
-    named y of_n is = is ∙ ap (λ m. holdings_in t.contracts (hs ++ run) (commodity_id t m)) (sym of_n)
+  -- the holdings of a commodity are those of its number
+  pub by_number : (c : ℕ) (hs : List Holding) → c < length t.commodities → All (λ h. h.contract < length t.contracts) hs
+      → holdings_in t.contracts hs (commodity_id t c) ≡ filter (λ h. eqb (number_held t h) c) hs
+  by_number c hs below known =
+      filter_same (λ h. bytes_eq (commodity_held t.contracts h) (commodity_id t c)) (λ h. eqb (number_held t h) c) hs
+      (λ k d lt. is_of (get_or hs k d) c (known k d lt) below)
 
-    -- the run is appended to the holdings of its commodity
-    module _ (p : ℕ) (x y : HoldingsOf) (lt : p < length lists) (stands : x ≡ get_or lists p x) (of_x : x.commodity ≡ n)
-        (of_y : y.commodity ≡ n) (more : y.holdings.items ≡ x.holdings.items ++ run) where
-      here_it_is : (d : HoldingsOf) → get_or lists p d ≡ x
-      here_it_is d = get_or_default lists p d x lt ∙ sym stands
-
-      -- the commodity numbers at two indexes differ
-      apart : (k : ℕ) (d : HoldingsOf) → k < length lists → k ≢ p → (get_or lists k d).commodity ≢ n
-      apart k d below other = λ same.
-          let at_p : (get_or lists p d).commodity ≡ n = ap (λ (l : HoldingsOf). l.commodity) (here_it_is d) ∙ of_x in
-          elim (cases_lt k p) [
-            | inl less ↦ let up = before.rise k p d less lt in absurd (omega (arith, up, same, at_p))
-            | inr most ↦ let up = before.rise p k d (omega (arith, most, other)) below in absurd (omega (arith, up, same, at_p))
-          ]
-
-      same_number : (k : ℕ) (d : HoldingsOf) → (get_or (set lists p y) k d).commodity ≡ (get_or lists k d).commodity
-      same_number k d = elim (cases_eq k p) [
-        | inl same ↦ ap (λ (j : ℕ). (get_or (set lists p y) j d).commodity) same
-            ∙ ap (λ (l : HoldingsOf). l.commodity) (get_or-set_same lists p y d lt) ∙ of_y ∙ sym of_x
-            ∙ ap (λ (l : HoldingsOf). l.commodity) (sym (here_it_is d))
-            ∙ ap (λ (j : ℕ). (get_or lists j d).commodity) (sym same)
-        | inr other ↦ ap (λ (l : HoldingsOf). l.commodity) (get_or-set_other lists p k y d other)
-      ]
-
-      pub extended : AreGathered t (hs ++ run) (set lists p y)
-      extended =
-          let long = length-set lists p y in
-          let was : x.holdings.items ≡ holdings_in t.contracts hs (commodity_id t n) =
-          ap (λ (l : HoldingsOf). l.holdings.items) stands ∙ before.each p x lt
-          ∙ ap (λ (l : HoldingsOf). holdings_in t.contracts hs (commodity_id t l.commodity)) (sym stands)
-          ∙ ap (λ m. holdings_in t.contracts hs (commodity_id t m)) of_x in
-          let now = more ∙ ap (λ gs. gs ++ run) was ∙ sym (here known) in
-          let some_was : length x.holdings.items ≢ 0 =
-          subst (λ (l : HoldingsOf). length l.holdings.items ≢ 0) (sym stands) (before.some p x lt) in
-          record {
-            rise = λ i j d less below.
-                let up = before.rise i j d less (omega (arith, below, long)) in
-                omega (arith, up, same_number i d, same_number j d);
-            in_range = set_each (λ l. l.commodity < length t.commodities) lists p y (omega (arith, of_y, known))
-                (λ k d below other. before.in_range k d below);
-            each = set_each (λ l. l.holdings.items ≡ holdings_in t.contracts (hs ++ run) (commodity_id t l.commodity)) lists p y
-                (named y of_y now)
-                (λ k d below other. as_was (get_or lists k d) (before.in_range k d below) (apart k d below other)
-                (before.each k d below));
-            some = set_each (λ l. length l.holdings.items ≢ 0) lists p y
-                (omega (arith, ap length more, length-append x.holdings.items run, some_was))
-                (λ k d below other. before.some k d below);
-            others = λ c below none.
-                let other : c ≢ n = λ same.
-                none p y (omega (arith, lt, long))
-                (ap (λ (l : HoldingsOf). l.commodity) (get_or-set_same lists p y y lt) ∙ of_y ∙ sym same) in
-                there c below other
-                ∙ before.others c below
-                (λ k d at. subst (λ m. m ≢ c) (same_number k d) (none k d (omega (arith, at, long))));
-          }
-
-    -- the run is the first of its commodity
-    module _ (p : ℕ) (y : HoldingsOf) (le : p ≤ length lists) (below : AllWithin (λ l. l.commodity < n) lists 0 p)
-        (above : AllWithin (λ l. n < l.commodity) lists p (length lists)) (of_y : y.commodity ≡ n) (first : y.holdings.items ≡ run)
-        (some : 0 < length run) where
-      none_yet : All (λ l. l.commodity ≢ n) lists
-      none_yet k d lt = λ same. elim (cases_lt k p) [
-        | inl less ↦ let under = below k d (omega arith) less in absurd (omega (arith, under, same))
-        | inr most ↦ let over = above k d most lt in absurd (omega (arith, over, same))
-      ]
-
-      pub inserted : AreGathered t (hs ++ run) (insert lists p y)
-      inserted =
-          let now = first ∙ ap (λ gs. gs ++ run) (sym (before.others n known none_yet)) ∙ sym (here known) in
-          record {
-            rise = pairs_insert (λ a b. a.commodity < b.commodity) lists p y le before.rise
-                (λ k d low high. let under = below k d low high in omega (arith, under, of_y))
-                (λ k d low high. let over = above k d low high in omega (arith, over, of_y));
-            in_range = insert_each (λ l. l.commodity < length t.commodities) lists p y (omega (arith, of_y, known)) before.in_range;
-            each = insert_each (λ l. l.holdings.items ≡ holdings_in t.contracts (hs ++ run) (commodity_id t l.commodity)) lists p y
-                (named y of_y now)
-                (λ k d lt. as_was (get_or lists k d) (before.in_range k d lt) (none_yet k d lt) (before.each k d lt));
-            some = insert_each (λ l. length l.holdings.items ≢ 0) lists p y (omega (arith, ap length first, some)) before.some;
-            others = λ c lt none.
-                let long = length-insert lists p y le in
-                let other : c ≢ n = λ same.
-                none p y (omega (arith, le, long))
-                (ap (λ (l : HoldingsOf). l.commodity) (get_or-insert_at lists p y y le) ∙ of_y ∙ sym same) in
-                there c lt other
-                ∙ before.others c lt (left_of_insert (λ l. l.commodity ≢ c) lists p y le none);
-          }
-
--- one more holding, of commodity number n; b says whether n is c
-pub one_more : (t : AcceptedTables) (gs : List Holding) (i n : ℕ) (d : Holding) → IsWithinLimits t → i < length gs
-    → (get_or gs i d).contract < length t.contracts
-    → IfSome (slice_get t.contracts (get_or gs i d).contract) (λ x. n ≡ commodity_number t.commodities x.commodity)
-    → (c : ℕ) (b : Bool) → c < length t.commodities → eqb n c ≡ b
-    → holdings_in t.contracts (take (i + 1) gs) (commodity_id t c)
-    ≡ holdings_in t.contracts (take i gs) (commodity_id t c) ++ cond b (get_or gs i d ∷ []) []
-one_more t gs i n d limits lt known told c b below is =
-    let of = is_of_number t gs i n n d d lt known told refl in
-    ap (λ hs. holdings_in t.contracts hs (commodity_id t c)) (take_more gs i d lt)
-    ∙ with_run t limits (take i gs) (get_or gs i d ∷ []) n (All-cons (IsOf t n) (get_or gs i d) [] of (All-nil (IsOf t n))) c b below is
-
--- the gathered holdings are within the limits, and with their records they are the held contracts
-module _ (t : AcceptedTables) (hs : List Holding) (lists : List HoldingsOf) (limits : IsWithinLimits t) (portfolio : ArePortfolio hs)
-    (known : fits (length t.contracts) hs ≡ true) (gathered : AreGathered t hs lists) where
-  pub gathered_in_range : All (λ l. AreHoldings t.contracts l.holdings.items) lists
-  gathered_in_range k d lt =
-      subst (AreHoldings t.contracts) (sym (gathered.each k d lt))
-      (are_holdings t hs (commodity_id t (get_or lists k d).commodity) limits portfolio known)
-
-pub gathered_held : (t : AcceptedTables) (hs : List Holding) (lists : List HoldingsOf)
-    → All (λ l. AreHoldings t.contracts l.holdings.items) lists → AreGathered t hs lists
-    → AreHeldCommodities t hs (map (commodity_held_of t.contracts) lists)
-gathered_held t hs lists in_range gathered =
-    let f = commodity_held_of t.contracts in
-    record {
-      rise = pairs_map (λ a b. a.commodity < b.commodity) f lists gathered.rise;
-      in_range = All-map (λ h. h.commodity < length t.commodities) f lists gathered.in_range;
-      each = All-map (λ h. h.held ≡ held_of t.contracts hs (commodity_id t h.commodity)) f lists
-          (λ k d lt. ap (held_contracts t.contracts) (gathered.each k d lt)
-          ∙ held_in t.contracts hs (commodity_id t (get_or lists k d).commodity));
-      some = All-map (λ h. length h.held ≢ 0) f lists
-          (λ k d lt. let long = length_held t.contracts (get_or lists k d).holdings.items (in_range k d lt).known in
-          omega (arith, long, gathered.some k d lt));
-      others = λ c lt none. sym (held_in t.contracts hs (commodity_id t c))
-          ∙ ap (held_contracts t.contracts)
-          (gathered.others c lt (λ k d below.
-          subst (λ (h : CommodityHeld). h.commodity ≢ c) (get_or-map f lists k d (f d) below)
-          (none k (f d) (omega (arith, below, length-map lists f)))));
+  module _ (holdings : List Holding) where
+    pub all_left : (sorted : List Holding) → AreByCommodity t holdings sorted → AreLeft t holdings 0 sorted
+    all_left sorted are = record {
+      known = are.known;
+      rise = are.rise;
+      behind = λ k d lt. omega arith;
+      same = λ c le lt. are.same c lt;
     }
 
--- the held contracts of each commodity, while those in `rest` have not yet been stored at their commodity's index
-pub record ArePlaced (t : AcceptedTables) (hs : List Holding) (rest : List CommodityHeld) (held : List (List HeldContract)) : Type 0 where
-  pub size : length held ≡ length t.commodities
-  pub in_range : All (λ h. h.commodity < length t.commodities) rest
-  pub each : All (λ h. h.held ≡ held_of t.contracts hs (commodity_id t h.commodity)) rest
-  pub others : (c : ℕ) → c < length t.commodities → All (λ h. h.commodity ≢ c) rest
-      → get_or held c [] ≡ held_of t.contracts hs (commodity_id t c)
+    -- at the end nothing more is held
+    pub none_left : (next : ℕ) → AreLeft t holdings next [] → (c : ℕ) → next ≤ c → c < length t.commodities
+        → holdings_in t.contracts holdings (commodity_id t c) ≡ []
+    none_left next left c le lt = sym (left.same c le lt)
 
-named_each : {X Y : Type 0} (f : List ℕ → Y) (name : X → List ℕ) (e : Y) (xs : List X) (ys : List Y) → length ys ≡ length xs
-    → ((c : ℕ) → c < length xs → get_or ys c e ≡ f (unwrap_or (option_map name (slice_get xs c)) []))
-    → ys ≡ map (λ x. f (name x)) xs
-named_each f name e [] [] long each = refl
-named_each f name e [] (y ∷ ys) long each = cc
-named_each f name e (x ∷ xs) [] long each = cc
-named_each f name e (x ∷ xs) (y ∷ ys) long each =
-    let first : y ≡ f (name x) = each 0 (omega arith) in
-    let rest = named_each f name e xs ys (omega (arith, long)) (λ c lt. each (suc c) (omega (arith, lt))) in
-    λ i. first i ∷ rest i
+    -- a run of holdings of commodity n, before holdings of which the first is of another commodity
+    module _ (next n : ℕ) (x : Holding) (xs more : List Holding) (left : AreLeft t holdings next ((x ∷ xs) ++ more))
+        (of : All (λ h. number_held t h ≡ n) (x ∷ xs)) (ends : (d : Holding) → 0 < length more → number_held t (get_or more 0 d) ≢ n)
+        (below : n < length t.commodities) where
+      abbrev run : List Holding
+      run = x ∷ xs
 
-module _ (t : AcceptedTables) (hs : List Holding) where
-  pub placed_none : (list : List CommodityHeld) → AreHeldCommodities t hs list
-      → ArePlaced t hs list (replicate (length t.commodities) [])
-  placed_none list are = record {
-    size = length-replicate (length t.commodities) [];
-    in_range = are.in_range;
-    each = are.each;
-    others = λ c lt none. get_or-replicate (length t.commodities) c [] [] lt ∙ sym (are.others c lt none);
-  }
+      first : number_held t x ≡ n
+      first = All-head (λ h. number_held t h ≡ n) x xs of
 
-  pub placed_next : (h : CommodityHeld) (rest : List CommodityHeld) (held : List (List HeldContract)) → ArePlaced t hs (h ∷ rest) held
-      → ArePlaced t hs rest (set held h.commodity h.held)
-  placed_next h rest held are =
-      let inside = All-head (λ x. x.commodity < length t.commodities) h rest are.in_range in
-      let is = All-head (λ x. x.held ≡ held_of t.contracts hs (commodity_id t x.commodity)) h rest are.each in
-      record {
-        size = length-set held h.commodity h.held ∙ are.size;
-        in_range = All-tail (λ x. x.commodity < length t.commodities) h rest are.in_range;
-        each = All-tail (λ x. x.held ≡ held_of t.contracts hs (commodity_id t x.commodity)) h rest are.each;
-        others = λ c lt none. elim (cases_eq c h.commodity) [
-          | inl same ↦ ap (λ (j : ℕ). get_or (set held h.commodity h.held) j []) same
-              ∙ get_or-set_same held h.commodity h.held [] (omega (arith, are.size, inside)) ∙ is
-              ∙ ap (λ (j : ℕ). held_of t.contracts hs (commodity_id t j)) (sym same)
-          | inr other ↦ get_or-set_other held h.commodity c h.held [] other
-              ∙ are.others c lt (All-cons (λ x. x.commodity ≢ c) h rest (λ e. other (sym e)) none)
-        ];
+      abbrev whole : List Holding
+      whole = run ++ more
+
+      -- numbers from the front on, and behind the run
+      up : (k : ℕ) (d : Holding) → k < length whole → n ≤ number_held t (get_or whole k d)
+      up k d lt =
+          let rise : number_held t x ≤ number_held t (get_or whole k d) = left.rise 0 k d (omega arith) lt in omega (arith, rise, first)
+
+      later : (i j : ℕ) (d : Holding) → i ≤ j → j < length more → number_held t (get_or more i d) ≤ number_held t (get_or more j d)
+      later i j d le lt =
+          let long = length-append run more in
+          let rise = left.rise (length run + i) (length run + j) d (omega arith) (omega (arith, lt, long)) in
+          let at_i = ap (number_held t) (get_or-append-add run more i d) in
+          let at_j = ap (number_held t) (get_or-append-add run more j d) in
+          omega (arith, rise, at_i, at_j)
+
+      above : All (λ h. n < number_held t h) more
+      above k d lt =
+          let long = length-append run more in
+          let most = up (length run + 0) d (omega (arith, lt, long)) in
+          let at = ap (number_held t) (get_or-append-add run more 0 d) in
+          let other = ends d (omega (arith, lt)) in
+          let rise = later 0 k d (omega arith) lt in
+          omega (arith, most, at, other, rise)
+
+      known_run : All (λ h. h.contract < length t.contracts) run
+      known_run k d lt =
+          let long = length-append run more in
+          subst (λ (h : Holding). h.contract < length t.contracts) (get_or_append_left run more d k lt)
+          (left.known k d (omega (arith, lt, long)))
+
+      known_more : All (λ h. h.contract < length t.contracts) more
+      known_more k d lt =
+          let long = length-append run more in
+          subst (λ (h : Holding). h.contract < length t.contracts) (get_or-append-add run more k d)
+          (left.known (length run + k) d (omega (arith, lt, long)))
+
+      apart : (c : ℕ) → c ≢ n → All (λ h. eqb (number_held t h) c ≡ false) run
+      apart c other k d lt = let is = of k d lt in grind (arith, nat_tests)
+
+      split : (c : ℕ) → holdings_in t.contracts whole (commodity_id t c)
+          ≡ holdings_in t.contracts run (commodity_id t c) ++ holdings_in t.contracts more (commodity_id t c)
+      split c = filter-append (λ h. bytes_eq (commodity_held t.contracts h) (commodity_id t c)) run more
+
+      none_before : (c : ℕ) → next ≤ c → c < n → holdings_in t.contracts holdings (commodity_id t c) ≡ []
+      none_before c le lt =
+          let inside : c < length t.commodities = omega (arith, lt, below) in
+          sym (left.same c le inside)
+          ∙ alike c false whole inside left.known (λ k d at. let most = up k d at in grind (arith, nat_tests))
+
+      all_of_it : run ≡ holdings_in t.contracts holdings (commodity_id t n)
+      all_of_it =
+          let behind : next ≤ n = let b = All-head (λ h. next ≤ number_held t h) x (xs ++ more) left.behind in omega (arith, b, first) in
+          let mine = alike n true run below known_run (λ k d lt. let is = of k d lt in grind (arith, nat_tests)) in
+          let others = alike n false more below known_more (λ k d lt. let over = above k d lt in grind (arith, nat_tests)) in
+          sym (append-nil run) ∙ ap (λ hs. run ++ hs) (sym others) ∙ ap (λ hs. hs ++ holdings_in t.contracts more (commodity_id t n))
+          (sym mine)
+          ∙ sym (split n) ∙ left.same n behind below
+
+      pub next_run : IsNextRun t holdings next n run more
+      next_run = record {
+        behind = let b = All-head (λ h. next ≤ number_held t h) x (xs ++ more) left.behind in omega (arith, b, first);
+        none = none_before;
+        is = all_of_it;
+        after = record {
+          known = known_more;
+          rise = later;
+          behind = λ k d lt. let over = above k d lt in omega (arith, over);
+          same = λ c le lt.
+              let other : c ≢ n = omega (arith, le) in
+              let none = alike c false run lt known_run (apart c other) in
+              ap (λ hs. hs ++ holdings_in t.contracts more (commodity_id t c)) (sym none) ∙ sym (split c)
+              ∙ left.same c (let b = All-head (λ h. next ≤ number_held t h) x (xs ++ more) left.behind in omega (arith, b, first, le)) lt;
+        };
       }
 
-  pub placed_all : (held : List (List HeldContract)) → ArePlaced t hs [] held
-      → held ≡ map (λ c. held_of t.contracts hs c.id) t.commodities
-  placed_all held are =
-      named_each (held_of t.contracts hs) (λ (c : Commodity). c.id) [] t.commodities held are.size
-      (λ c lt. are.others c lt (All-nil (λ (h : CommodityHeld). h.commodity ≢ c)))
+  -- a run in a list of holdings that are left from an index on
+  module _ (holdings sorted : List Holding) (next done : ℕ) (left : AreLeft t holdings next (drop done sorted))
+      (at : done < length sorted) where
+    first_left : (d : Holding) → get_or (drop done sorted) 0 d ≡ get_or sorted done d
+    first_left d = let same : done + 0 ≡ done = omega arith in get_or-drop done sorted 0 d ∙ ap (λ k. get_or sorted k d) same
+
+    -- the first holding that is left is of a contract that exists
+    pub first_known : (d : Holding) → (get_or sorted done d).contract < length t.contracts
+    first_known d =
+        let long = length-drop done sorted in
+        subst (λ (h : Holding). h.contract < length t.contracts) (first_left d) (left.known 0 d (omega (arith, at, long)))
+
+    next_of : (n : ℕ) (run more : List Holding) → 0 < length run → AreLeft t holdings next (run ++ more)
+        → All (λ h. number_held t h ≡ n) run → ((d : Holding) → 0 < length more → number_held t (get_or more 0 d) ≢ n)
+        → n < length t.commodities → IsNextRun t holdings next n run more
+    next_of n [] more some here of ends below = absurd (omega arith)
+    next_of n (x ∷ xs) more some here of ends below = next_run holdings next n x xs more here of ends below
+
+    pub run_at : (n end : ℕ) → done + 1 ≤ end → end ≤ length sorted → ((d : Holding) → number_held t (get_or sorted done d) ≡ n)
+        → AllWithin (λ h. number_held t h ≡ n) sorted (done + 1) end
+        → ((d : Holding) → end < length sorted → number_held t (get_or sorted end d) ≢ n) → n < length t.commodities
+        → IsNextRun t holdings next n (slice_range sorted done end) (drop end sorted)
+    run_at n end begins inside first same ends below =
+        let long = length-between sorted done end inside in
+        next_of n (slice_range sorted done end) (drop end sorted) (omega (arith, long, begins))
+        (subst (AreLeft t holdings next) (drop_split sorted done end (omega (arith, begins))) left)
+        (all_between (λ h. number_held t h ≡ n) sorted done end inside first same)
+        (λ d some same_number.
+        let behind : end + 0 ≡ end = omega arith in
+        let rest = length-drop end sorted in
+        ends d (omega (arith, some, rest))
+        (sym (ap (number_held t) (get_or-drop end sorted 0 d ∙ ap (λ k. get_or sorted k d) behind)) ∙ same_number))
+        below
+
+-- the numbers before an index rise up to the latest one
+pub record RiseTo {X : Type 0} (n : X → ℕ) (xs : List X) (i latest : ℕ) : Type 0 where
+  pub rise : (j k : ℕ) (d : X) → j ≤ k → k < i → n (get_or xs j d) ≤ n (get_or xs k d)
+  pub below : (k : ℕ) (d : X) → k < i → n (get_or xs k d) ≤ latest
+
+-- one more holding whose commodity number is at least all before
+module _ {X : Type 0} (n : X → ℕ) (xs : List X) where
+  pub rise_more : (i latest next : ℕ) (e : X) → i < length xs → RiseTo n xs i latest → latest ≤ next → next ≡ n (get_or xs i e)
+      → RiseTo n xs (i + 1) next
+  rise_more i latest next e lt so_far le is =
+      let here : (d : X) → n (get_or xs i d) ≡ next = λ d. ap n (get_or_default xs i d e lt) ∙ sym is in
+      record {
+        rise = λ j k d before inside. elim (cases_lt k i) [
+          | inl less ↦ so_far.rise j k d before less
+          | inr most ↦ let last : k ≡ i = omega (arith, most, inside) in
+              elim (cases_eq j k) [
+                | inl same ↦ let alike = ap (λ (m : ℕ). n (get_or xs m d)) same in omega (arith, alike)
+                | inr other ↦ let b = so_far.below j d (omega (arith, before, other, last)) in
+                    let at = ap (λ (m : ℕ). n (get_or xs m d)) last in
+                    let h = here d in
+                    omega (arith, b, at, h, le)
+              ]
+        ];
+        below = λ k d inside. elim (cases_lt k i) [
+          | inl less ↦ let b = so_far.below k d less in omega (arith, b, le)
+          | inr most ↦ let last : k ≡ i = omega (arith, most, inside) in
+              let at = ap (λ (m : ℕ). n (get_or xs m d)) last in
+              let h = here d in
+              omega (arith, at, h)
+        ];
+      }

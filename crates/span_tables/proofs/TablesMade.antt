@@ -3,14 +3,15 @@ use Rattle.std.proofs.Common.{◌≡◌, ℕ, suc, zero, ◌<◌, true, List, []
 use Rattle.std.proofs.Common.{length, map, filter, get_or, refl, ap, ◌∙◌, arith}
 use Rattle.std.specs.Prelude.{bytes_eq, option_map, slice_get, unwrap_or}
 use Rattle.std.proofs.lemmas.List.{length-map}
-use Rattle.span_tables.specs.Accepted.{commodity_number}
+use Rattle.span_tables.specs.declared.contracts.Terms.{Terms}
 use Rattle.span_tables.specs.near.Kept.{IsAccepted, IsTables, tables_from}
+use Rattle.span_tables.specs.near.Terms.{terms_of}
 use Rattle.span_tables.specs.Tables.{commodity_id}
 use Rattle.span_tables.specs.near.ByKind.{AreByKind}
 use Rattle.span_tables.specs.near.Limits.{is_readable}
 use Rattle.span_tables.specs.Rules.{keeps_rules}
 use Rattle.span_tables.specs.Tables.{AcceptedTables, inter_spread, inters_of, intra_spread}
-use Rattle.span_tables.specs.Tables.{intras_of, profile_in, rising_by, set_id_in, spots_of, tables_of}
+use Rattle.span_tables.specs.Tables.{intras_of, profile_in, rising_by, set_id_in, spots_of, tables_of, tiers_of}
 use Rattle.span_tables.specs.declared.kinds.Kinds.{Kinds}
 use Rattle.span_tables.specs.declared.records.Commodity.{Commodity}
 use Rattle.span_tables.specs.declared.records.Contract.{Contract}
@@ -47,25 +48,36 @@ module _ (t : AcceptedTables) (accepted : IsAccepted t) where
       ap (λ (zs : List (List Spot)). get_or zs c []) is
       ∙ listed (λ (d : Commodity). d.id) (λ id. filter (λ (s : Spot). bytes_eq s.commodity id) t.spots) t.commodities c lt
 
+  tiers_at : (tiers : List (List Tier)) → tiers ≡ map (λ c. filter (λ u. bytes_eq u.commodity c.id) t.tiers) t.commodities
+      → (c : ℕ) → c < length t.commodities → get_or tiers c [] ≡ tiers_of t (commodity_id t c)
+  unfolding tiers_of
+  tiers_at tiers is c lt =
+      ap (λ (zs : List (List Tier)). get_or zs c []) is
+      ∙ listed (λ (d : Commodity). d.id) (λ id. filter (λ (u : Tier). bytes_eq u.commodity id) t.tiers) t.commodities c lt
+
   inters_all : (inters : List Inter) → inters ≡ map (inter_spread t.commodities) t.inter_records → inters ≡ inters_of t
   unfolding inters_of
   inters_all inters is = is
 
-  pub are_tables : (numbers : List ℕ) (intras : List (List Intra)) (spots : List (List Spot)) (inters : List Inter)
-      → numbers ≡ map (λ x. commodity_number t.commodities x.commodity) t.contracts
+  pub are_tables : (terms : List Terms) (intras : List (List Intra)) (spots : List (List Spot)) (inters : List Inter)
+      (tiers : List (List Tier))
+      → terms ≡ map (terms_of t.commodities t.tiers) t.contracts
       → intras ≡ map (λ c. map (intra_spread t.tiers) (filter (λ s. bytes_eq s.commodity c.id) t.intra_records)) t.commodities
       → spots ≡ map (λ c. filter (λ s. bytes_eq s.commodity c.id) t.spots) t.commodities
       → inters ≡ map (inter_spread t.commodities) t.inter_records
-      → IsTables t numbers intras spots inters
-  are_tables numbers intras spots inters n i s x = record {
+      → tiers ≡ map (λ c. filter (λ u. bytes_eq u.commodity c.id) t.tiers) t.commodities
+      → IsTables t terms intras spots inters tiers
+  are_tables terms intras spots inters tiers n i s x y = record {
     accepted = accepted;
     limits = accepted_limits t accepted;
-    numbers_are = n;
+    terms_are = n;
     every_intra = ap length i ∙ length-map t.commodities _;
     intras_are = intras_at intras i;
     every_spot = ap length s ∙ length-map t.commodities _;
     spots_are = spots_at spots s;
     inters_are = inters_all inters x;
+    every_tier = ap length y ∙ length-map t.commodities _;
+    tiers_are = tiers_at tiers y;
   }
 
 -- records by kind, with the spreads sorted, are the records of the tables

@@ -51,7 +51,7 @@ meets_if : (on months : ℕ) (b : Bool) → (bit_and on months == 0) ≡ b → (
 meets_if on months true e some = absurd (some (grind (arith, nat_tests, e)))
 meets_if on months false e some = refl
 
-or_true : (a b : Bool) → b ≡ true → (a || b) ≡ true
+pub or_true : (a b : Bool) → b ≡ true → (a || b) ≡ true
 or_true true b e = refl
 or_true false b e = e
 

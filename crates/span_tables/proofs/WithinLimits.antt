@@ -10,17 +10,18 @@ use Rattle.span_tables.specs.Accepted.{IsInter, IsIntra, IsSpot, IsWithinLimits,
 use Rattle.span_tables.specs.near.Kept.{IsAccepted}
 use Rattle.span_tables.specs.near.Limits.{at_most_each, begins_with_set, in_range, intra_in_range, is_readable}
 use Rattle.span_tables.specs.Names.{has_repeat}
-use Rattle.span_tables.specs.Rules.{as_commodity, as_contract, commodities_in, contracts_in, inters_in}
-use Rattle.span_tables.specs.Rules.{intras_in, keeps_rules, names_no_commodity, repeats_leg, spots_in, tiers_in}
+use Rattle.span_tables.specs.Rules.{as_commodity, as_contract, as_tier, commodities_in, contracts_in, inters_in}
+use Rattle.span_tables.specs.Rules.{intras_in, keeps_rules, names_no_commodity, names_no_tier, repeats_leg, spots_in, tiers_in}
 use Rattle.span_tables.specs.Tables.{AcceptedTables, commodity_leg, inter_spread, inters_of}
-use Rattle.span_tables.specs.Tables.{intra_spread, intras_of, rising_by, spots_of, tables_of}
+use Rattle.span_tables.specs.Tables.{intra_spread, intras_of, rising_by, spots_of, tables_of, tiers_of}
 use Rattle.span_tables.specs.declared.limits.TheConstants.{MAX_COMMODITIES, MAX_CONTRACTS, MAX_INTER_SPREADS}
-use Rattle.span_tables.specs.declared.limits.TheConstants.{MAX_INTRA_SPREADS, MAX_SPOT_MONTHS, MAX_RATIO}
+use Rattle.span_tables.specs.declared.limits.TheConstants.{MAX_INTRA_SPREADS, MAX_SPOT_MONTHS, MAX_TIERS, MAX_RATIO}
 use Rattle.span_tables.specs.declared.records.Commodity.{Commodity}
 use Rattle.span_tables.specs.declared.records.InterRecord.{InterRecord}
 use Rattle.span_tables.specs.declared.records.IntraRecord.{IntraRecord}
 use Rattle.span_tables.specs.declared.records.Record.{Record}
 use Rattle.span_tables.specs.declared.records.Spot.{Spot}
+use Rattle.span_tables.specs.declared.records.Tier.{Tier}
 use Rattle.span_tables.proofs.Counts.{at_most, at_most_permuted}
 use Rattle.span_tables.proofs.KeptRules.{all_kept, all_true, and_true, apart, of_each}
 use Rattle.span_tables.proofs.Known.{IsKnown, NamesKnown, all_known, contracts_known, inters_apart}
@@ -28,6 +29,7 @@ use Rattle.span_tables.proofs.Known.{inters_known, intras_known, legs_apart, spo
 use Rattle.span_tables.proofs.OrderLaws.{rising_permutation}
 use Rattle.span_tables.proofs.Ranges.{IsInterRecord, are_contracts, are_inters, are_intras, are_spots, is_intra}
 use Rattle.span_tables.proofs.Ranges.{profile_within, rates_within}
+use Rattle.span_tables.proofs.TierLists.{NamesTiers, all_named, apart_of, legs_named, overlap}
 
 -- the conditions on readable records, one by one
 pub record IsReadable (rs : List Record) : Type 0 where
@@ -36,6 +38,7 @@ pub record IsReadable (rs : List Record) : Type 0 where
   pub few_commodities : length (commodities_in rs) ≤ MAX_COMMODITIES
   pub few_contracts : length (contracts_in rs) ≤ MAX_CONTRACTS
   pub few_inters : length (inters_in rs) ≤ MAX_INTER_SPREADS
+  pub few_tiers : at_most_each MAX_TIERS (λ t. t.commodity) (tiers_in rs) ≡ true
   pub few_intras : at_most_each MAX_INTRA_SPREADS (λ s. s.commodity) (intras_in rs) ≡ true
   pub few_spots : at_most_each MAX_SPOT_MONTHS (λ s. s.commodity) (spots_in rs) ≡ true
 
@@ -44,13 +47,15 @@ unfolding is_readable
 readable rs e =
     let parts = all_true _ _ _ (and_true _ _ e).0 in
     let by_commodity = all_true _ _ _ parts.2 in
-    let counts = all_true _ _ _ (and_true _ _ by_commodity.0).0 in
+    let with_tiers = and_true _ _ by_commodity.0 in
+    let counts = all_true _ _ _ with_tiers.0 in
     record {
       begins = parts.0;
       ranges = parts.1;
       few_commodities = leb-true _ _ counts.0;
       few_contracts = leb-true _ _ counts.1;
       few_inters = leb-true _ _ counts.2;
+      few_tiers = with_tiers.1;
       few_intras = by_commodity.1;
       few_spots = by_commodity.2;
     }
@@ -60,6 +65,8 @@ pub record KeepsRules (rs : List Record) : Type 0 where
   pub commodities_apart : has_repeat (λ c d. bytes_eq c.id d.id) (commodities_in rs) ≡ false
   pub named : AllByRecursion (NamesKnown (commodities_in rs)) rs
   pub contracts_apart : has_repeat (λ x y. bytes_eq x.id y.id) (contracts_in rs) ≡ false
+  pub tiers_apart : has_repeat overlap (tiers_in rs) ≡ false
+  pub tiers_named : All (NamesTiers (tiers_in rs)) (intras_in rs)
   pub legs : AllByRecursion (λ r. repeats_leg r ≡ false) rs
 
 pub kept : (rs : List Record) → keeps_rules rs ≡ true → KeepsRules rs
@@ -69,6 +76,8 @@ kept rs e =
       commodities_apart = apart as_commodity (λ c d. bytes_eq c.id d.id) rs k.0;
       named = all_known rs rs (of_each (names_no_commodity rs) [] rs k.1.0);
       contracts_apart = apart as_contract (λ x y. bytes_eq x.id y.id) rs k.1.1.0;
+      tiers_apart = apart as_tier overlap rs k.1.1.1.1.1.0;
+      tiers_named = all_named rs rs (of_each (names_no_tier rs) [] rs k.1.1.1.1.1.1.0);
       legs = of_each repeats_leg [] rs k.1.1.1.1.1.1.1.0;
     }
 
@@ -94,7 +103,7 @@ inter_within cs apart s fields known legs =
 
 -- the tables of readable records that keep the rules are within the limits
 pub within_limits : (rs : List Record) → is_readable rs ≡ true → keeps_rules rs ≡ true → IsWithinLimits (tables_of rs)
-unfolding tables_of intras_of spots_of inters_of
+unfolding tables_of intras_of spots_of tiers_of inters_of
 within_limits rs is_r keeps =
     let r = readable rs is_r in
     let k = kept rs keeps in
@@ -118,6 +127,10 @@ within_limits rs is_r keeps =
           _ (All-permutation (λ s. IsIntra (intra_spread (tiers_in rs) s)) (intras_in rs) _ intras_same
           (All-weaker (λ s. intra_in_range s ≡ true) (λ s. IsIntra (intra_spread (tiers_in rs) s)) (is_intra (tiers_in rs))
           (intras_in rs) (are_intras rs r.ranges))));
+      few_tiers = at_most (λ (t : Tier). t.commodity) MAX_TIERS (tiers_in rs) r.few_tiers;
+      tiers_apart = λ id. apart_of id (tiers_in rs) k.tiers_apart;
+      legs_known = λ id. legs_named id (tiers_in rs) (rising_by (λ (s : IntraRecord). s.priority) (intras_in rs))
+          (All-permutation (NamesTiers (tiers_in rs)) (intras_in rs) _ intras_same k.tiers_named);
       few_spots = at_most (λ (s : Spot). s.commodity) MAX_SPOT_MONTHS (spots_in rs) r.few_spots;
       spots_in_range = λ id. All-filter _ IsSpot (spots_in rs) (are_spots rs r.ranges);
       few_inters =

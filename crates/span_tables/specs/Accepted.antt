@@ -1,10 +1,11 @@
 -- The properties of the accepted tables of a parameter set, and of the lists that are computed from them in advance.
-use Rattle.std.specs.Prelude.{◌≡◌, ℕ, ◌<◌, ◌≤◌, false, List, length}
+use Rattle.std.specs.Prelude.{◌≡◌, ℕ, ◌<◌, ◌≤◌, true, false, List, length}
 use Rattle.std.specs.Prelude.{◌==◌, bytes_eq, All, nat_abs}
-use Rattle.std.specs.List.{position_or_len}
+use Rattle.std.specs.List.{list_any, position_or_len}
 use Rattle.span_tables.specs.Names.{has_repeat}
-use Rattle.span_tables.specs.Tables.{AcceptedTables, intras_of, spots_of, inters_of}
-use Rattle.span_tables.specs.declared.limits.TheConstants.{MAX_COMMODITIES, MAX_CONTRACTS, MAX_INTRA_SPREADS}
+use Rattle.span_tables.specs.Rules.{share_month}
+use Rattle.span_tables.specs.Tables.{AcceptedTables, has_months, intras_of, spots_of, tiers_of, inters_of}
+use Rattle.span_tables.specs.declared.limits.TheConstants.{MAX_COMMODITIES, MAX_CONTRACTS, MAX_TIERS, MAX_INTRA_SPREADS}
 use Rattle.span_tables.specs.declared.limits.TheConstants.{MAX_SPOT_MONTHS, MAX_INTER_SPREADS, MAX_RATE}
 use Rattle.span_tables.specs.declared.limits.TheConstants.{MAX_ARRAY_VALUE, MAX_DELTA, MAX_SCALE, SCENARIOS, MAX_RATIO}
 use Rattle.span_tables.specs.declared.limits.TheConstants.{MAX_BASIS_POINTS, MAX_OPTION_VALUE, MAX_PROFILE}
@@ -62,6 +63,9 @@ pub record IsWithinLimits (t : AcceptedTables) : Type 0 where
   pub contracts_known : All (λ x. commodity_number t.commodities x.commodity < length t.commodities) t.contracts
   pub few_intras : (id : List ℕ) → length (intras_of t id) ≤ MAX_INTRA_SPREADS
   pub intras_in_range : (id : List ℕ) → All IsIntra (intras_of t id)
+  pub few_tiers : (id : List ℕ) → length (tiers_of t id) ≤ MAX_TIERS
+  pub tiers_apart : (id : List ℕ) → has_repeat share_month (tiers_of t id) ≡ false
+  pub legs_known : (id : List ℕ) → All (λ s. All (λ leg. list_any (has_months leg) (tiers_of t id) ≡ true) s.legs) (intras_of t id)
   pub few_spots : (id : List ℕ) → length (spots_of t id) ≤ MAX_SPOT_MONTHS
   pub spots_in_range : (id : List ℕ) → All IsSpot (spots_of t id)
   pub few_inters : length (inters_of t) ≤ MAX_INTER_SPREADS

@@ -1,6 +1,6 @@
 -- The accepted tables: commodities and contracts in file order, and spreads by rising priority with the months or
 -- numbers that they name.
-use Rattle.std.specs.Prelude.{ℕ, true, ◌&&◌, ◌==◌, nat_le, if◌then◌else◌, List, [], slice_get}
+use Rattle.std.specs.Prelude.{ℕ, Bool, true, ◌&&◌, ◌==◌, nat_le, if◌then◌else◌, List, [], slice_get}
 use Rattle.std.specs.Prelude.{Option, ◌∷◌, map, filter, find, filter_map, option_map, unwrap_or, bytes_eq}
 use Rattle.std.specs.List.{position_or_len}
 use Rattle.span_tables.specs.Profiles.{facts_of}
@@ -97,6 +97,14 @@ intras_of tables commodity = map (intra_spread tables.tiers) (filter (λ s. byte
 -- the spot months of a commodity, in file order
 unfoldable pub spots_of : AcceptedTables → List ℕ → List Spot
 spots_of tables commodity = filter (λ s. bytes_eq s.commodity commodity) tables.spots
+
+-- the tiers of a commodity, in file order
+unfoldable pub tiers_of : AcceptedTables → List ℕ → List Tier
+tiers_of tables commodity = filter (λ t. bytes_eq t.commodity commodity) tables.tiers
+
+-- the tier has exactly the months of the leg
+abbrev pub has_months : MonthLeg → Tier → Bool
+has_months leg t = (t.first == leg.first) && (t.last == leg.last)
 
 -- a leg with its commodity number
 abbrev pub commodity_leg : List Commodity → InterLeg → CommodityLeg

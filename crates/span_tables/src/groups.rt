@@ -6,7 +6,7 @@ ghost use Rattle.span_tables.specs.Accepted.{commodity_number};
 ghost use Rattle.span_tables.specs.Names.{has_repeat};
 
 use crate::name::Name;
-use crate::records::{Commodity, Contract, Spot, Tier};
+use crate::records::{Commodity, Spot, Tier};
 use std::alloc::{AllocError, Global};
 
 // Returns the number of the commodity with an id, if there is one.
@@ -35,24 +35,6 @@ pub(crate) fn number_near(commodities: &[Commodity], near: usize, id: &Name) -> 
         }
     }
     number_of(commodities, id)
-}
-
-// Returns the commodity number of each contract.
-pub(crate) fn numbers_of(
-    alloc: Global,
-    commodities: &[Commodity],
-    contracts: &[Contract],
-) -> Result<Vec<usize>, AllocError>
-    requires { has_repeat (λ c d. bytes_eq c.id d.id) commodities.now ≡ false }
-    ensures { IfOk result (λ numbers. numbers.items ≡ map (λ x. commodity_number commodities.now x.commodity) contracts.now) }
-{
-    let mut numbers = Vec::new(alloc);
-    let mut number = 0;
-    for contract in contracts {
-        number = number_near(commodities, number, &contract.commodity);
-        numbers.push(number)?;
-    }
-    Ok(numbers)
 }
 
 /// Returns `count` empty lists.

@@ -2,6 +2,7 @@
 //! commodity.
 #![tactic(auto)]
 
+pub mod contracts;
 pub mod groups;
 pub mod held;
 mod kinds;
@@ -14,6 +15,7 @@ pub mod portfolios;
 pub mod profiles;
 pub mod raw;
 pub mod records;
+pub mod runs;
 pub mod sides;
 pub mod slots;
 mod spreads;

@@ -1,6 +1,6 @@
 //! Sets of numbers, each in a 64-bit word. They can show that a number is not in a set.
-ghost use Rattle.std.specs.Prelude.{◌≡◌, ◌==◌, ◌^◌, ◌-◌, ℕ, ℤ};
-ghost use Rattle.span_tables.specs.Slots.{IsOpenAt, has_all, meets, numbers_on, with_slot};
+ghost use Rattle.std.specs.Prelude.{◌≡◌, ◌≢◌, ◌==◌, ◌^◌, ◌-◌, ◌%◌, ℕ, ℤ};
+ghost use Rattle.span_tables.specs.Slots.{IsMarked, IsOpenAt, has_all, meets, numbers_on, with_slot};
 ghost use Rattle.span_tables.specs.declared.slots.OpenSides.{OpenSides};
 ghost use Rattle.span_tables.specs.declared.slots.TheConstants.{SLOTS};
 
@@ -52,6 +52,17 @@ impl Slots {
     {
         Slots {
             word: self.word | 1 << (number % SLOTS),
+        }
+    }
+
+    /// Returns the set without a number, and without all other numbers of its slot.
+    pub fn without(self, number: usize) -> Slots
+        ensures kept { (other : ℕ) → other % SLOTS ≢ number % SLOTS → IsMarked self other → IsMarked result other }
+        ensures less { (other : ℕ) → IsMarked result other → IsMarked self other }
+        ensures gone { IsMarked result number → ⊥ }
+    {
+        Slots {
+            word: self.word & !(1 << (number % SLOTS)),
         }
     }
 

@@ -1,11 +1,12 @@
 //! Spreads with the months of their tiers, or with their commodity numbers.
 ghost use Rattle.std.specs.Prelude.{◌≡◌, ◌<◌, ◌&&◌, ◌==◌, length, map};
-ghost use Rattle.std.specs.Prelude.{filter, find, option_copied, bytes_eq, false, All, IfOk};
+ghost use Rattle.std.specs.Prelude.{List, filter, find, option_copied, bytes_eq, false, All, IfOk};
 ghost use Rattle.span_tables.specs.Accepted.{commodity_number};
 ghost use Rattle.span_tables.specs.Names.{has_repeat};
 ghost use Rattle.span_tables.specs.Tables.{commodity_leg, inter_spread, intra_spread, month_leg};
+ghost use Rattle.span_tables.specs.declared.records.Tier.{Tier};
 
-use crate::groups::{empty_lists, number_near, number_of, push_at, tiers_by_commodity};
+use crate::groups::{empty_lists, number_near, number_of, push_at};
 use crate::legs::MonthLeg;
 use crate::name::Name;
 use crate::records::{
@@ -52,20 +53,22 @@ fn intra_of(tiers: &[Tier], spread: &IntraRecord) -> Intra
     Intra::new(spread.priority, spread.rate, legs)
 }
 
-// Returns the intracommodity spreads of each commodity in their order, each with its tiers' months.
+// Returns the intracommodity spreads of each commodity in their order, each with its tiers' months. `tier_lists` has the
+// tiers of each commodity.
 pub(crate) fn intras_by_commodity(
     alloc: Global,
     commodities: &[Commodity],
-    tiers: &[Tier],
+    tier_lists: &[Vec<Tier>],
     spreads: &[IntraRecord],
 ) -> Result<Vec<Vec<Intra>>, AllocError>
     requires apart { has_repeat (λ c d. bytes_eq c.id d.id) commodities.now ≡ false }
-    requires tiers_known { All (λ t. commodity_number commodities.now t.commodity < length commodities.now) tiers.now }
+    requires every { length tier_lists.now ≡ length commodities.now }
     requires known { All (λ s. commodity_number commodities.now s.commodity < length commodities.now) spreads.now }
-    ensures { IfOk result (λ lists. map (λ v. v.items) lists.items
-        ≡ map (λ c. map (intra_spread tiers.now) (filter (λ s. bytes_eq s.commodity c.id) spreads.now)) commodities.now) }
+    ensures { IfOk result (λ lists. (tiers : List Tier)
+        → map (λ v. v.items) tier_lists.now ≡ map (λ c. filter (λ t. bytes_eq t.commodity c.id) tiers) commodities.now
+        → map (λ v. v.items) lists.items
+        ≡ map (λ c. map (intra_spread tiers) (filter (λ s. bytes_eq s.commodity c.id) spreads.now)) commodities.now) }
 {
-    let tier_lists = tiers_by_commodity(alloc, commodities, tiers)?;
     let mut lists = empty_lists(alloc, commodities.len())?;
     let mut place = 0;
     for spread in spreads {

@@ -1,15 +1,19 @@
 //! The accepted tables of a parameter set.
 ghost use Rattle.std.specs.Prelude.{◌≡◌, ◌<◌, ◌≤◌, [], bytes_eq, length, map};
-ghost use Rattle.std.specs.Prelude.{slice_get, slice_index_or, false, true, All, IfOk, IfSome};
+ghost use Rattle.std.specs.Prelude.{slice_index_or, false, true, All, IfOk};
 ghost use Rattle.std.specs.Arc.{arc_value};
-ghost use Rattle.span_tables.specs.Accepted.{IsInter, IsIntra, IsSpot, IsWithinLimits, commodity_number};
+ghost use Rattle.std.specs.List.{list_any};
+ghost use Rattle.span_tables.specs.Accepted.{IsInter, IsIntra, IsSpot, IsWithinLimits};
+ghost use Rattle.span_tables.specs.near.Gathered.{number_of};
 ghost use Rattle.span_tables.specs.near.Kept.{IsAccepted, tables_from};
 ghost use Rattle.span_tables.specs.Tables.{commodity_id};
-ghost use Rattle.span_tables.specs.Rules.{keeps_rules};
-ghost use Rattle.span_tables.specs.Tables.{facts_in, inters_of, intras_of, spots_of, tables_of};
-ghost use Rattle.span_tables.specs.declared.limits.TheConstants.{MAX_INTER_SPREADS, MAX_INTRA_SPREADS, MAX_SPOT_MONTHS};
+ghost use Rattle.span_tables.specs.Names.{has_repeat};
+ghost use Rattle.span_tables.specs.Rules.{keeps_rules, share_month};
+ghost use Rattle.span_tables.specs.Tables.{facts_in, has_months, inters_of, intras_of, spots_of, tables_of, tiers_of};
+ghost use Rattle.span_tables.specs.declared.limits.TheConstants.{MAX_INTER_SPREADS, MAX_INTRA_SPREADS, MAX_SPOT_MONTHS, MAX_TIERS};
 
-use crate::groups::{numbers_of, spots_by_commodity};
+use crate::contracts::Contracts;
+use crate::groups::{spots_by_commodity, tiers_by_commodity};
 use crate::kinds::{Kinds, in_order, profile, set_id};
 use crate::name::Name;
 use crate::profiles::{ProfileFacts, facts_of};
@@ -34,22 +38,22 @@ pub struct Counts {
 /// The accepted tables of a parameter set.
 ///
 /// Commodities and contracts are numbered from 0 in file order, and spreads are sorted by priority. In addition to the
-/// records, the tables have the commodity number of each contract, spreads with their months or commodity numbers, and
-/// the spot months of each commodity.
+/// records, the tables have the terms of each contract, spreads with their months or commodity numbers, and the spot
+/// months and the tiers of each commodity.
 #[derive(Drop)]
 pub struct Tables {
     set_id: Name,
     version: u8,
     commodities: Vec<Commodity>,
-    contracts: Arc<Vec<Contract>>,
+    contracts: Arc<Contracts>,
     tiers: Vec<Tier>,
     intra_records: Vec<IntraRecord>,
     spots: Vec<Spot>,
     inter_records: Vec<InterRecord>,
-    commodity_numbers: Vec<usize>,
     intras: Vec<Vec<Intra>>,
     spot_months: Vec<Vec<Spot>>,
     inters: Vec<Inter>,
+    tier_lists: Vec<Vec<Tier>>,
 }
 
 impl Model for Tables {
@@ -64,7 +68,7 @@ impl Model for Tables {
       set_id = t.set_id;
       profile = t.version;
       commodities = t.commodities.items;
-      contracts = (arc_value t.contracts).items;
+      contracts = (arc_value t.contracts).records;
       tiers = t.tiers.items;
       intra_records = t.intra_records.items;
       spots = t.spots.items;
@@ -76,14 +80,14 @@ impl Model for Tables {
           set_id = t.set_id;
           profile = t.version;
           commodities = t.commodities.items;
-          contracts = (arc_value t.contracts).items;
+          contracts = (arc_value t.contracts).records;
           tiers = t.tiers.items;
           intra_records = t.intra_records.items;
           spots = t.spots.items;
           inter_records = t.inter_records.items;
         })
-        t.commodity_numbers.items (map (λ v. v.items) t.intras.items) (map (λ v. v.items) t.spot_months.items)
-        t.inters.items };
+        (arc_value t.contracts).terms (map (λ v. v.items) t.intras.items) (map (λ v. v.items) t.spot_months.items)
+        t.inters.items (map (λ v. v.items) t.tier_lists.items) };
 }
 
 // Returns the list at index `place`.
@@ -116,15 +120,17 @@ impl Tables {
         requires { IsAccepted (tables_from set_id profile kinds) }
         ensures { IfOk result (λ tables. tables ≡ tables_from set_id profile kinds) }
     {
+        let records = kinds.contracts;
         let commodities = kinds.commodities.as_slice();
         let tiers = kinds.tiers.as_slice();
         let spreads = kinds.intras.as_slice();
         let spots = kinds.spots.as_slice();
-        let commodity_numbers = numbers_of(alloc, commodities, &kinds.contracts)?;
-        let intras = intras_by_commodity(alloc, commodities, tiers, spreads)?;
+        let tier_lists = tiers_by_commodity(alloc, commodities, tiers)?;
+        let intras = intras_by_commodity(alloc, commodities, &tier_lists, spreads)?;
         let spot_months = spots_by_commodity(alloc, commodities, spots)?;
         let inters = inters_with_numbers(alloc, commodities, &kinds.inters)?;
-        let contracts = Arc::new(alloc, kinds.contracts)?;
+        let contracts = Contracts::of(alloc, commodities, &tier_lists, records)?;
+        let contracts = Arc::new(alloc, contracts)?;
         Ok(Tables {
             set_id,
             version: profile,
@@ -134,10 +140,10 @@ impl Tables {
             intra_records: kinds.intras,
             spots: kinds.spots,
             inter_records: kinds.inters,
-            commodity_numbers,
             intras,
             spot_months,
             inters,
+            tier_lists,
         })
     }
 
@@ -182,26 +188,31 @@ impl Tables {
         ensures value { result.now ≡ self.now.contracts }
         ensures limits { IsWithinLimits self.now }
     {
-        self.contracts.as_slice()
+        self.contracts.records()
+    }
+
+    // Returns the contracts, each with its terms.
+    pub(crate) fn with_terms(&self) -> &Contracts
+        ensures value { result.now.records ≡ self.now.contracts }
+        ensures limits { IsWithinLimits self.now }
+    {
+        &self.contracts
     }
 
     // Returns one more shared reference to the contracts.
-    pub(crate) fn share_contracts(&self) -> Result<Arc<Vec<Contract>>, AllocError>
-        ensures value { IfOk result (λ contracts. (arc_value contracts).items ≡ self.now.contracts) }
+    pub(crate) fn share_contracts(&self) -> Result<Arc<Contracts>, AllocError>
+        ensures value { IfOk result (λ contracts. (arc_value contracts).records ≡ self.now.contracts) }
         ensures limits { IsWithinLimits self.now }
     {
         Arc::try_clone(&self.contracts)
     }
 
-    // Returns the commodity number of the contract with a number.
-    #[tactic(auto, using(crate::proofs::GatherLemmas::number_is, crate::proofs::GatherLemmas::number_known))]
-    pub(crate) fn commodity_of(&self, contract: usize) -> usize
-        requires { contract < length self.now.contracts }
-        ensures value { IfSome (slice_get self.now.contracts contract)
-            (λ x. result ≡ commodity_number self.now.commodities x.commodity) }
-        ensures known { result < length self.now.commodities }
+    /// Returns the commodity number of the contract with a number, or 0 if there is no such contract.
+    pub fn commodity_of(&self, contract: usize) -> usize
+        ensures value { result ≡ number_of self.now contract }
+        ensures known { contract < length self.now.contracts → result < length self.now.commodities }
     {
-        self.commodity_numbers[contract]
+        self.contracts.commodity_of(contract)
     }
 
     /// Returns the tiers of all commodities, in file order.
@@ -232,12 +243,25 @@ impl Tables {
         &self.inter_records
     }
 
-    /// Returns the intracommodity spreads of the commodity with this number, by rising priority.
+    /// Returns the tiers of the commodity with this number, in file order. No two of them share a month.
+    pub fn tiers_of(&self, commodity: usize) -> &[Tier]
+        requires { commodity < length self.now.commodities }
+        ensures value { result.now ≡ tiers_of self.now (commodity_id self.now commodity) }
+        ensures few { length result.now ≤ MAX_TIERS }
+        ensures apart { has_repeat share_month result.now ≡ false }
+    {
+        list_at(&self.tier_lists, commodity)
+    }
+
+    /// Returns the intracommodity spreads of the commodity with this number, by rising priority. Each leg has the months
+    /// of a tier of the commodity.
     pub fn intras(&self, commodity: usize) -> &[Intra]
         requires { commodity < length self.now.commodities }
         ensures value { result.now ≡ intras_of self.now (commodity_id self.now commodity) }
         ensures few { length result.now ≤ MAX_INTRA_SPREADS }
         ensures in_range { All IsIntra result.now }
+        ensures of_tiers { All (λ s. All (λ leg.
+            list_any (has_months leg) (tiers_of self.now (commodity_id self.now commodity)) ≡ true) s.legs) result.now }
     {
         list_at(&self.intras, commodity)
     }
@@ -274,7 +298,7 @@ impl Tables {
     {
         Counts {
             commodities: self.commodities.len(),
-            contracts: self.contracts.len(),
+            contracts: self.contracts.records().len(),
             tiers: self.tiers.len(),
             intra: self.intra_records.len(),
             spots: self.spots.len(),

@@ -24,7 +24,7 @@ use Rattle.spread_stage.proofs.UseLaws.{side-cons, weight}
 
 -- ---- using one side of the market leaves the other side unchanged
 
-short_kept : (z : ℤ) (u : ℕ) → u ≤ positive_part z → negative_part (z -ℤ pos u) ≡ negative_part z
+pub short_kept : (z : ℤ) (u : ℕ) → u ≤ positive_part z → negative_part (z -ℤ pos u) ≡ negative_part z
 short_kept (pos n) u h = let e : pos n -ℤ pos u ≡ pos (n - u) = omega (arith, ints, h) in ap negative_part e
 short_kept (negsuc n) u h = let e : negsuc n -ℤ pos u ≡ negsuc n = omega (arith, ints, h) in ap negative_part e
 
@@ -36,7 +36,7 @@ long_if false n u e h =
     let le : u ≤ n = grind (arith, nat_tests, e) in
     let z : negsuc n +ℤ pos u ≡ negsuc (n - u) = omega (arith, ints, le) in ap positive_part z
 
-long_kept : (z : ℤ) (u : ℕ) → u ≤ negative_part z → positive_part (z +ℤ pos u) ≡ positive_part z
+pub long_kept : (z : ℤ) (u : ℕ) → u ≤ negative_part z → positive_part (z +ℤ pos u) ≡ positive_part z
 long_kept (pos n) u h = let e : pos n +ℤ pos u ≡ pos n = omega (arith, ints, h) in ap positive_part e
 long_kept (negsuc n) u h = long_if (nat_lt n u) n u refl h
 
@@ -51,7 +51,7 @@ other_part d side.B side.B e z u h = cc
 
 -- ---- a leg that draws apart leaves another leg's side unchanged
 
-other_side : (on : MarketSide) (leg : MonthLeg) (f : MonthUnits → MonthUnits)
+pub other_side : (on : MarketSide) (leg : MonthLeg) (f : MonthUnits → MonthUnits)
     → ((m : MonthUnits) → weight on leg (f m) ≡ weight on leg m) → (ms : List MonthUnits)
     → tier_side (map f ms) on leg ≡ tier_side ms on leg
 other_side on leg f same [] = refl

@@ -120,7 +120,7 @@ tier_marked on sides leg (m ∷ ms) have above =
     (month_marked on sides leg m (is_in_tier leg m) refl (All-head P m ms have))
     (tier_marked on sides leg ms (All-tail P m ms have)) (omega (arith, all, above))
 
-side_above : (side ratio : ℕ) → 0 < side / ratio → 0 < side
+pub side_above : (side ratio : ℕ) → 0 < side / ratio → 0 < side
 side_above zero ratio above = let none = zero-div ratio in absurd (omega (arith, none, above))
 side_above (suc n) ratio above = omega arith
 

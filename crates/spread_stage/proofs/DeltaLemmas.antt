@@ -1,6 +1,10 @@
 -- The month deltas, computed one held contract at a time.
 use Rattle.std.proofs.Common.{◌≡◌, ℕ, ◌+◌, ◌<◌, ◌≤◌, Bool, true, false, cond, List, [], ◌∷◌, refl, sym, ap}
 use Rattle.std.proofs.Common.{◌∙◌, subst, arith, filter, map, inl, inr, nat_abs}
+use Rattle.std.proofs.Common.{zero, suc, negsuc, ◌*◌, ◌*ℤ◌, ◌-ℤ◌}
+use Rattle.std.proofs.Math.IntN.{*ℤ-zero, *ℤ_comm, pred_ℤ-*ℤ, suc_ℤ-*ℤ, zero-*ℤ}
+use Rattle.span_money.proofs.WordLemmas.{product_size}
+use Rattle.span_tables.specs.declared.limits.TheConstants.{MAX_DELTA, MAX_NET, MAX_SCALE}
 use Rattle.std.specs.Prelude.{ℤ, pos, ◌+ℤ◌, ◌==◌, nat_lt, ◌⊎◌}
 use Rattle.std.specs.List.{AllByRecursion}
 use Rattle.std.proofs.lemmas.Int.{ints}
@@ -14,6 +18,40 @@ use Rattle.span_tables.specs.Net.{HeldContract}
 use Rattle.spread_stage.specs.declared.months.MonthUnits.{MonthUnits}
 use Rattle.span_tables.proofs.SumLaws.{int_sum_by-if}
 use Rattle.spread_stage.proofs.MonthLaws.{Rise, Has, months_rise_up, months_have, later_than, all_above}
+
+-- a product with a sum
+times_sum : (a y b : ℤ) → a *ℤ (y +ℤ b) ≡ a *ℤ y +ℤ a *ℤ b
+times_sum (pos zero) y b = omega (arith, ints, zero-*ℤ (y +ℤ b), zero-*ℤ y, zero-*ℤ b)
+times_sum (pos (suc n)) y b =
+    let all : pos (suc n) *ℤ (y +ℤ b) ≡ pos n *ℤ (y +ℤ b) +ℤ (y +ℤ b) = suc_ℤ-*ℤ (pos n) (y +ℤ b) in
+    let one : pos (suc n) *ℤ y ≡ pos n *ℤ y +ℤ y = suc_ℤ-*ℤ (pos n) y in
+    let other : pos (suc n) *ℤ b ≡ pos n *ℤ b +ℤ b = suc_ℤ-*ℤ (pos n) b in
+    omega (arith, ints, all, one, other, times_sum (pos n) y b)
+times_sum (negsuc zero) y b =
+    let all : negsuc zero *ℤ (y +ℤ b) ≡ pos zero *ℤ (y +ℤ b) -ℤ (y +ℤ b) = pred_ℤ-*ℤ (pos zero) (y +ℤ b) in
+    let one : negsuc zero *ℤ y ≡ pos zero *ℤ y -ℤ y = pred_ℤ-*ℤ (pos zero) y in
+    let other : negsuc zero *ℤ b ≡ pos zero *ℤ b -ℤ b = pred_ℤ-*ℤ (pos zero) b in
+    omega (arith, ints, all, one, other, zero-*ℤ (y +ℤ b), zero-*ℤ y, zero-*ℤ b)
+times_sum (negsuc (suc n)) y b =
+    let all : negsuc (suc n) *ℤ (y +ℤ b) ≡ negsuc n *ℤ (y +ℤ b) -ℤ (y +ℤ b) = pred_ℤ-*ℤ (negsuc n) (y +ℤ b) in
+    let one : negsuc (suc n) *ℤ y ≡ negsuc n *ℤ y -ℤ y = pred_ℤ-*ℤ (negsuc n) y in
+    let other : negsuc (suc n) *ℤ b ≡ negsuc n *ℤ b -ℤ b = pred_ℤ-*ℤ (negsuc n) b in
+    omega (arith, ints, all, one, other, times_sum (negsuc n) y b)
+
+-- a net quantity times a delta that is already scaled
+pub times_scaled : (net delta : ℤ) (scale : ℕ) → net *ℤ (delta *ℤ pos scale) ≡ (net *ℤ delta) *ℤ pos scale
+times_scaled net delta zero = ap (λ z. net *ℤ z) (*ℤ-zero delta) ∙ *ℤ-zero net ∙ sym (*ℤ-zero (net *ℤ delta))
+times_scaled net delta (suc scale) =
+    let next : (z : ℤ) → z *ℤ pos (suc scale) ≡ z *ℤ pos scale +ℤ z =
+    λ z. *ℤ_comm z (pos (suc scale)) ∙ suc_ℤ-*ℤ (pos scale) z ∙ ap (λ w. w +ℤ z) (*ℤ_comm (pos scale) z) in
+    ap (λ z. net *ℤ z) (next delta) ∙ times_sum net (delta *ℤ pos scale) delta
+    ∙ ap (λ z. z +ℤ net *ℤ delta) (times_scaled net delta scale)
+    ∙ sym (next (net *ℤ delta))
+
+-- the units of a net quantity are within their limit
+pub units_small : (net units : ℤ) → nat_abs net ≤ MAX_NET → nat_abs units ≤ MAX_DELTA * MAX_SCALE
+    → nat_abs (net *ℤ units) ≤ MAX_NET * MAX_DELTA * MAX_SCALE
+units_small net units x y = let size = product_size net units MAX_NET (MAX_DELTA * MAX_SCALE) x y in omega (arith, size)
 
 -- months, each with the units that a function returns for it
 abbrev with_deltas : (ℕ → ℤ) → List ℕ → List MonthUnits

@@ -17,7 +17,7 @@ use Rattle.spread_stage.specs.Spreads.{spread_one_way, spread_both_ways, after_s
 use Rattle.spread_stage.specs.declared.months.MonthUnits.{MonthUnits}
 use Rattle.spread_stage.proofs.SizeLemmas.{shrinks_none}
 use Rattle.spread_stage.proofs.SpreadLemmas.{legs_shrink}
-use Rattle.spread_stage.proofs.UseLaws.{side-cons, weight, used_total}
+use Rattle.spread_stage.proofs.UseLaws.{side-cons, weight, used_all, used_total}
 
 negative_left : (z : ℤ) (n u : ℕ) → z +ℤ pos n ≡ pos 0 → negative_part z ≡ n
 negative_left (pos k) n u e = omega (arith, ints, e)
@@ -63,6 +63,14 @@ module _ (on : MarketSide) (leg : MonthLeg) (needed : ℕ) (rests : List MonthUn
       let e = weight_if on (is_in_tier leg m) m.units (needed - side_before rests on leg m.month) in
       let h = side_of_all ms in
       omega (arith, a, b, d, e, h)
+
+-- a leg's side falls by what the leg needs, and to 0 at the least
+pub side_left : (on : MarketSide) (leg : MonthLeg) (rests : List MonthUnits) (needed : ℕ) → MonthsRise rests
+    → tier_side (rests_after_leg on needed rests leg) on leg ≡ tier_side rests on leg - needed
+side_left on leg rests needed rise =
+    let all = side_of_all on leg needed rests rests in
+    let whole = used_all on leg rests needed rise in
+    omega (arith, all, whole)
 
 -- a leg's side falls by exactly what the leg needs
 pub side_falls : (on : MarketSide) (leg : MonthLeg) (rests : List MonthUnits) (needed : ℕ) → MonthsRise rests

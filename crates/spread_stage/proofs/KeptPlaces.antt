@@ -12,7 +12,7 @@ use Rattle.spread_stage.specs.declared.tier_places.TierPlace.{TierPlace}
 use Rattle.spread_stage.specs.declared.tier_places.TierPlaces.{TierPlaces}
 
 -- two tiers occupy the same indices of two lists if at each index a month is in both tiers or in neither
-stands_too : (leg other : MonthLeg) (rests later : List MonthUnits) (start stop : ℕ) → length later ≡ length rests
+pub stands_too : (leg other : MonthLeg) (rests later : List MonthUnits) (start stop : ℕ) → length later ≡ length rests
     → ((k : ℕ) (d : MonthUnits) → is_in_tier other (get_or later k d) ≡ is_in_tier leg (get_or rests k d))
     → IsTierAt leg rests start stop → IsTierAt other later start stop
 stands_too leg other rests later start stop long same at = record {
@@ -55,13 +55,13 @@ remembered known places i place rests inside are new entry is d =
           (are entry (sym (get_or-set_other known i entry true false apart) ∙ is) d)
     ]
 
-same_length : (rests later : List MonthUnits) → Shrinks rests later → length later ≡ length rests
+pub same_length : (rests later : List MonthUnits) → Shrinks rests later → length later ≡ length rests
 same_length [] [] h = refl
 same_length [] (r ∷ later) h = absurd h
 same_length (m ∷ rests) [] h = absurd h
 same_length (m ∷ rests) (r ∷ later) h = let e = same_length rests later (h.1).1 in omega (arith, e)
 
-same_month : (rests later : List MonthUnits) → Shrinks rests later → (k : ℕ) (d : MonthUnits)
+pub same_month : (rests later : List MonthUnits) → Shrinks rests later → (k : ℕ) (d : MonthUnits)
     → (get_or later k d).month ≡ (get_or rests k d).month
 same_month [] [] h k d = refl
 same_month [] (r ∷ later) h k d = absurd h

@@ -14,3 +14,9 @@ mod SpotLemmas
 pub mod BesideLemmas
 pub mod ApartLaws
 pub mod SpreadBounds
+pub mod TierPlanLemmas
+pub mod TierSumLemmas
+pub mod TierFormLemmas
+pub mod TierStartLemmas
+pub mod TierNumberLemmas
+pub mod SetPlanLemmas

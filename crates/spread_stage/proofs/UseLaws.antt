@@ -128,12 +128,17 @@ module _ (on : MarketSide) (leg : MonthLeg) where
   below_empty [] = tt
   below_empty (m ∷ ms) = (tt, below_empty ms)
 
+  -- a leg uses what it needs, or all of its side if that is less
+  pub used_all : (rests : List MonthUnits) (needed : ℕ) → MonthsRise rests
+      → sum_by (used_of_month rests on leg needed) rests ≡ min needed (tier_side rests on leg)
+  used_all rests needed rise =
+      let all = used_rest needed [] rests (below_empty rests) rise in
+      omega (arith, all)
+
   -- a leg uses exactly what it needs if its side has that much
   pub used_total : (rests : List MonthUnits) (needed : ℕ) → MonthsRise rests → needed ≤ tier_side rests on leg
       → sum_by (used_of_month rests on leg needed) rests ≡ needed
-  used_total rests needed rise enough =
-      let all = used_rest needed [] rests (below_empty rests) rise in
-      omega (arith, all, enough)
+  used_total rests needed rise enough = let all = used_all rests needed rise in omega (arith, all, enough)
 
   all_back : (x : MonthUnits) (front back : List MonthUnits) → AllByRecursion (λ (n : MonthUnits). x.month < n.month) (front ++ back)
       → AllByRecursion (λ (n : MonthUnits). x.month < n.month) back

@@ -151,6 +151,19 @@ fn spot_charges(months: &[MonthUnits], rests: &[MonthUnits], spots: &[Spot]) -> 
 /// Returns the delivery charge of the spot months, in minor units, rounded up once. In each month, the delta that
 /// spreads used is charged at the spread rate, and the remaining delta at the outright rate.
 #[tactic(auto, unfolding(crate::specs::Charges::delivery_charge))]
+pub(crate) fn delivery_of(months: &Months, rests: &[MonthUnits], spots: &[Spot]) -> Money
+    requires rests { total_size rests.now ≤ MAX_UNITS }
+    requires shrinks { Shrinks months.now rests.now }
+    requires few { length spots.now ≤ MAX_SPOT_MONTHS }
+    requires spots { All IsSpot spots.now }
+    ensures value { result ≡ pos (delivery_charge months.now rests.now spots.now) }
+    ensures bound { nat_abs result ≤ MAX_DELIVERY_CHARGE }
+{
+    let sum = spot_charges(months.as_slice(), rests, spots);
+    Money::new(ceil_div(sum, WHOLE_DELTA) as i128)
+}
+
+/// Returns the delivery charge of the spot months after the spreads of a state, in minor units, rounded up once.
 pub fn delivery(months: &Months, tiers: &TierState, spots: &[Spot]) -> Money
     requires shrinks { Shrinks months.now tiers.now.rests }
     requires few { length spots.now ≤ MAX_SPOT_MONTHS }
@@ -158,8 +171,7 @@ pub fn delivery(months: &Months, tiers: &TierState, spots: &[Spot]) -> Money
     ensures value { result ≡ pos (delivery_charge months.now tiers.now.rests spots.now) }
     ensures bound { nat_abs result ≤ MAX_DELIVERY_CHARGE }
 {
-    let sum = spot_charges(months.as_slice(), tiers.rests(), spots);
-    Money::new(ceil_div(sum, WHOLE_DELTA) as i128)
+    delivery_of(months, tiers.rests(), spots)
 }
 
 /// Returns what spreads used and left of a spot month's delta, and its charge at the month's two rates. If the month

@@ -1,28 +1,26 @@
 //! The deltas of the months in which an account holds contracts of a commodity (docs/METHOD.md, Deltas).
-ghost use Rattle.std.specs.Prelude.{◌≡◌, ◌+◌, ◌*◌, ◌≤◌, nat_abs, [], OnOk, OnErr, IfOk};
+ghost use Rattle.std.specs.Prelude.{◌≡◌, ◌+◌, ◌*◌, ◌≤◌, ◌*ℤ◌, nat_abs, [], OnOk, OnErr, IfOk};
 ghost use Rattle.std.specs.List.Sorted.{IsNonDecreasingBy};
-ghost use Rattle.span_tables.specs.Accepted.{IsContract};
+ghost use Rattle.span_tables.specs.near.Terms.{IsTerms};
 ghost use Rattle.span_tables.specs.declared.limits.TheConstants.{MAX_DELTA, MAX_NET, MAX_SCALE, MAX_UNITS};
-ghost use Rattle.spread_stage.specs.Deltas.{month_deltas, units_of};
+ghost use Rattle.spread_stage.specs.Deltas.{month_deltas};
 ghost use Rattle.spread_stage.specs.Months.{AreMonths, total_size};
 ghost use Rattle.spread_stage.specs.near.Uses.{gathered, with_units_last};
 
 use crate::months::{MonthUnits, Months};
 use span_money::amounts::Units;
-use span_tables::held::Held;
-use span_tables::records::Contract;
+use span_tables::contracts::Terms;
+use span_tables::held::HeldRun;
 use std::alloc::{AllocError, Global};
 
 // Returns the delta of a net quantity of a contract, in units of 10^-8.
-fn units_of(contract: &Contract, net: i64) -> i64
+fn units_of(terms: &Terms, net: i64) -> i64
     requires net { nat_abs net ≤ MAX_NET }
-    requires contract { IsContract contract.now }
-    ensures value { result ≡ units_of (record { contract = contract.now; net = net }) }
+    requires terms { IsTerms terms.now }
+    ensures value { result ≡ net *ℤ (terms.now).units }
     ensures bound { nat_abs result ≤ MAX_NET * MAX_DELTA * MAX_SCALE }
 {
-    let delta = i64::from(contract.delta.get());
-    let scale = i64::from(contract.scale.get());
-    net * delta * scale
+    net * i64::from(terms.units)
 }
 
 // Adds units to the last month, or appends a new month if the last month is another one.
@@ -72,7 +70,7 @@ fn rising(mut months: Vec<MonthUnits>) -> Result<Vec<MonthUnits>, AllocError>
 //
 // If the contracts are in ascending order of month, as they usually are, one pass is enough and nothing is sorted.
 #[tactic(auto, unfolding(crate::specs::Deltas::month_deltas))]
-fn refilled(mut months: Vec<MonthUnits>, held: &Held) -> Result<Vec<MonthUnits>, AllocError>
+fn refilled(mut months: Vec<MonthUnits>, held: &HeldRun<'_>) -> Result<Vec<MonthUnits>, AllocError>
     ensures value { IfOk result (λ months. months.items ≡ month_deltas held.now) }
     ensures kept { IfOk result (λ months. AreMonths months.items) }
 {
@@ -81,10 +79,10 @@ fn refilled(mut months: Vec<MonthUnits>, held: &Held) -> Result<Vec<MonthUnits>,
     let mut latest = 0;
     let mut rise = true;
     for i in 0..held.len() {
-        let contract = held.contract(i);
-        rise = rise && latest <= contract.month;
-        latest = contract.month;
-        add(&mut months, contract.month, units_of(contract, held.net(i)))?;
+        let terms = held.terms(i);
+        rise = rise && latest <= terms.month;
+        latest = terms.month;
+        add(&mut months, terms.month, units_of(terms, held.net(i)))?;
     }
     if rise {
         return Ok(months);
@@ -97,7 +95,7 @@ impl Months {
     /// memory.
     ///
     /// If memory runs out, there are no months.
-    pub fn refill(&mut self, held: &Held) -> Result<(), AllocError>
+    pub fn refill(&mut self, held: &HeldRun<'_>) -> Result<(), AllocError>
         ensures ok { OnOk result (self.new ≡ month_deltas held.now) }
         ensures err { OnErr result (self.new ≡ []) }
     {
@@ -109,7 +107,7 @@ impl Months {
 
 /// Returns the months (`yyyymm`) in which contracts are held, strictly ascending, each with the sum of its contracts'
 /// deltas in units of 10^-8. Fails if memory runs out.
-pub fn month_deltas(alloc: Global, held: &Held) -> Result<Months, AllocError>
+pub fn month_deltas(alloc: Global, held: &HeldRun<'_>) -> Result<Months, AllocError>
     ensures { IfOk result (λ months. months ≡ month_deltas held.now) }
 {
     let mut months = Months::none(alloc);

@@ -217,7 +217,7 @@ fn spreads_formed(
 }
 
 // Uses `needed` units on a side of the market, from the earliest month on.
-fn use_months(months: &mut [MonthUnits], on: MarketSide, needed: u64)
+pub(crate) fn use_months(months: &mut [MonthUnits], on: MarketSide, needed: u64)
     requires { total_size months.old ≤ MAX_UNITS }
     ensures { months.new ≡ used_in_turn on needed months.old }
 {

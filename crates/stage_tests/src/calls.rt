@@ -26,7 +26,7 @@ use span_csv::together::AllAccounts;
 use span_money::exact::push_exact;
 use span_money::line_fields::{Field, push_line, push_line_of_numbers, push_number, push_start};
 use span_tables::groups::{empty_lists, push_at};
-use span_tables::held::{Held, HeldMemory, gather, gather_all, gather_held};
+use span_tables::held::{Held, HeldRun, gather, gather_all};
 use span_tables::name::Name;
 use span_tables::portfolios::{Portfolio, Portfolios};
 use span_tables::raw::{RawOrders, RawPositions};
@@ -54,7 +54,7 @@ fn calls_succeed(rt: HostRuntime) -> Result<(), Fail> {
     order_made(&rt, alloc, &tables)?;
     lists_held(&rt, alloc, &tables, &account)?;
     let held = held_of(&rt, alloc, &tables, &account)?;
-    spreads_of_months(&rt, alloc, &tables, &held)?;
+    spreads_of_months(&rt, alloc, &tables, &held.run())?;
     spreads_of_commodities(&rt, alloc)
 }
 
@@ -290,7 +290,7 @@ fn order_made(rt: &impl Abort, alloc: Global, tables: &Tables) -> Result<(), Fai
     Ok(())
 }
 
-// `span_tables`: the holdings in all commodities, and in the commodities with holdings.
+// `span_tables`: the holdings in all commodities.
 fn lists_held(
     rt: &impl Abort,
     alloc: Global,
@@ -301,14 +301,7 @@ fn lists_held(
 {
     let all = gather_all(alloc, tables, account)?;
     assert_eq!(rt; all.len(), 1);
-    assert_eq!(rt; all[0].len(), 2);
-    let mut memory = HeldMemory::new(alloc);
-    gather_held(alloc, tables, account, &mut memory)?;
-    assert_eq!(rt; memory.found.len(), 1);
-    assert_eq!(rt;
-        (memory.found[0].commodity, memory.found[0].held.len()),
-        (0, 2)
-    );
+    assert_eq!(rt; all[0].run().len(), 2);
     Ok(())
 }
 
@@ -324,8 +317,9 @@ fn held_of(
     assert!(rt; Held::none(alloc, tables)?.is_empty());
     assert_eq!(rt; tables.commodities().len(), 1);
     let held = gather(alloc, tables, account, 0)?;
-    assert_eq!(rt; held.len(), 2);
-    assert_eq!(rt; (held.net(0), held.net(1)), (3, -2));
+    let run = held.run();
+    assert_eq!(rt; run.len(), 2);
+    assert_eq!(rt; (run.net(0), run.net(1)), (3, -2));
     Ok(held)
 }
 
@@ -345,7 +339,7 @@ fn spreads_of_months(
     rt: &impl Abort,
     alloc: Global,
     tables: &Tables,
-    held: &Held,
+    held: &HeldRun<'_>,
 ) -> Result<(), Fail> {
     let months = month_deltas(alloc, held)?;
     assert!(rt; are_march_and_june(months.as_slice(), 300_000_000, -200_000_000));

@@ -1,6 +1,6 @@
--- The rows of a batch have distinct accounts, and their text is the statement.
+-- The rows of a batch have distinct accounts.
 use Rattle.std.proofs.Common.{◌≡◌, ◌∙◌, ℕ, zero, suc, ◌<◌, Bool, true, false, cond, List, [], ◌∷◌, map, take, length, Option}
-use Rattle.std.proofs.Common.{Some, None, get_or, bytes_eq, refl, sym, ap, subst, arith, ◌++◌, flat_map}
+use Rattle.std.proofs.Common.{Some, None, get_or, bytes_eq, refl, sym, ap, subst, arith}
 use Rattle.std.specs.List.{IsDistinct}
 use Rattle.std.proofs.lemmas.Map.Keys.{IsDistinct-head, IsDistinct-tail}
 use Rattle.binding.proofs.AccountLaws.{bytes_eq-flip}
@@ -10,8 +10,6 @@ use Rattle.result_book.specs.Books.{HasNoAccountTwice, account_of_row, row_for}
 use Rattle.step_scheduler.specs.Rows.{RowView}
 use Rattle.acceptance.specs.near.Accepting.{AreOnce}
 use Rattle.worker_teams.specs.near.OutcomeRows.{rows_of_accounts}
-use Rattle.std.proofs.lemmas.List.Concat.{flat_map-cons}
-use Rattle.statement_text.specs.Statement.{row_text, statement_text}
 use Rattle.acceptance.proofs.AccountLemmas.{IsNew}
 
 accounts_of_rows : (set : SetView) (portfolios : List AccountHoldings)
@@ -50,14 +48,3 @@ module _ {R : Type 0} (row_of : R → RowView) where
       (IsDistinct-head bytes_eq (account_of_row (row_of x)) (map account_of_row (map row_of xs)) once) (omega (arith, lt)))
       (none_before xs i d (IsDistinct-tail bytes_eq (account_of_row (row_of x)) (map account_of_row (map row_of xs)) once)
       (omega (arith, lt)))
-
--- the text of the rows is the statement
-pub text_of_batch : (set : SetView) (portfolios : List AccountHoldings)
-    → flat_map (λ r. row_text r.set.tables r.portfolio) (rows_of_accounts set portfolios) ≡ statement_text set.tables portfolios
-unfolding statement_text
-text_of_batch set [] = refl
-text_of_batch set (p ∷ portfolios) =
-    flat_map-cons (λ (r : RowView). row_text r.set.tables r.portfolio) (record { set = set; portfolio = p })
-    (rows_of_accounts set portfolios)
-    ∙ ap (λ t. row_text set.tables p ++ t) (text_of_batch set portfolios)
-    ∙ sym (flat_map-cons (row_text set.tables) p portfolios)

@@ -10,12 +10,12 @@ ghost use Rattle.std.specs.Arc.{arc_value};
 ghost use Rattle.std.specs.Prelude.{◌≡◌, ◌≢◌, ◌+◌, ◌-◌, ◌^◌, ◌++◌, ◌⊎◌, ◌↔◌};
 ghost use Rattle.std.specs.Prelude.{Err, IfErr, IfOk, List, OnOk, map, ℕ};
 
-use crate::batches::{append_text, text_of};
 use result_book::books::{BookFault, ResultBook};
 use std::alloc::{AllocError, Global};
 use std::marker::Model;
 use std::sync::Arc;
 use step_scheduler::rows::Row;
+use worker_teams::texts::{append_text, text_of};
 
 /// The rows of a batch that are in a book. Only [`put_in_book`] creates them.
 #[derive(Drop)]

@@ -2,7 +2,6 @@
 #![tactic(auto)]
 
 pub mod all_faults;
-pub mod batches;
 pub mod counts;
 mod in_book;
 pub mod laws;

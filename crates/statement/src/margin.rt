@@ -7,7 +7,6 @@ ghost use Rattle.std.specs.Prelude.{◌≡◌, ◌<◌, ◌⊎◌, ◌↔◌, Er
 ghost use Rattle.worker_pool.specs.Batches.{AllFit};
 ghost use Rattle.statement_text.specs.declared.faults.SpanFault.TheVariants as fault;
 
-use crate::batches::{text_of, text_together};
 use acceptance::accepting::{Accepted, accept, accept_together};
 use plan_compiler::set::CompiledSet;
 use span_tables::portfolios::Portfolios;
@@ -18,7 +17,8 @@ use std::thread::Threads;
 use std::time::Clock;
 use worker_pool::batch::MAX_WORKERS;
 use worker_pool::gates::Gate;
-use worker_teams::rows::{rows_alone, rows_together};
+use worker_teams::rows::rows_alone;
+use worker_teams::texts::{text_of, text_together};
 
 /// Returns the statement of two files, or the first fault in reading the parameters, checking them, reading the
 /// positions and binding them (docs/METHOD.md has the figures, docs/FORMATS.md the faults). Fails with `Memory` if
@@ -49,8 +49,7 @@ pub fn margin_of_portfolios<R: Threads + Wait + Clock + Sync, G: Gate>(
     requires { AllFit (arc_value set.now) portfolios }
     ensures { IfOk result (λ text. text.items ≡ statement_text (arc_value set.now).tables portfolios) }
 {
-    let rows = rows_together(rt, alloc, set, portfolios, workers, gate)?;
-    text_together(rt, alloc, &rows, workers)
+    text_together(rt, alloc, set, portfolios, workers, gate)
 }
 
 /// Returns the statement of two files on a number of workers, which may finish the steps in any order. The text or the

@@ -16,7 +16,6 @@ use span_tables::portfolios::{Portfolio, Portfolios};
 use span_tables::tables::Tables;
 use statement::accepting::{Accepted, accept, accept_together};
 use statement::all_faults::{faults, faults_status, faults_text};
-use statement::batches::{rows_alone, rows_together};
 use statement::counts::{check_plain, write_counts};
 use statement::fault_lines::{tell_fault, write_fault};
 use statement::faults::SpanFault;
@@ -33,7 +32,9 @@ use step_scheduler::rows::Row;
 use whatif::trying::whatif;
 use worker_pool::gates::OpenGate;
 use worker_pool::outcomes::Outcome;
+use worker_teams::rows::{rows_alone, rows_together};
 use worker_teams::teams::run_in_teams;
+use worker_teams::texts::{append_text, text_of, text_together};
 use writers::marked_writer::MarkedWriter;
 
 // The plan of a calendar spread.
@@ -111,11 +112,16 @@ fn lines_of(rt: &impl Abort, alloc: Global, row: &Row) -> Vec<u8> {
     out
 }
 
-// The statement of rows of one account, written in three ways.
+// The statement of rows of one account, written in several ways.
 fn of_rows(rt: &impl Abort, alloc: Global) {
     let rows = rows_of_two_files(rt, alloc);
     let text = write(alloc, &rows).expect(rt, "a statement");
     assert_eq!(rt; text.as_slice(), two_commodities::STATEMENT);
+    let text = text_of(alloc, &rows).expect(rt, "a statement");
+    assert_eq!(rt; text.as_slice(), two_commodities::STATEMENT);
+    let mut out = Vec::new(alloc);
+    append_text(&mut out, &rows).expect(rt, "a statement");
+    assert_eq!(rt; out.as_slice(), two_commodities::STATEMENT);
     let row = rows.first().expect(rt, "a row");
     assert_eq!(rt;
         lines_of(rt, alloc, row).as_slice(),
@@ -138,6 +144,22 @@ fn of_rows_together<R: Threads + Wait + Clock + Sync + Abort>(rt: &R, alloc: Glo
     let rows = rows_together(rt, alloc, &set, portfolios, 2, &OpenGate).expect(rt, "rows");
     let text = write(alloc, &rows).expect(rt, "a statement");
     assert_eq!(rt; text.as_slice(), two_commodities::STATEMENT);
+}
+
+// The statement of two files on one worker, which writes it account by account, and on two, which share the account.
+fn of_text_together<R: Threads + Wait + Clock + Sync + Abort>(rt: &R, alloc: Global) {
+    for workers in 1..3 {
+        let Accepted {
+            set,
+            portfolios,
+            ..
+        } = accept(alloc, two_commodities::PARAMS, two_commodities::POSITIONS).expect(rt, "files");
+        let text = text_together(rt, alloc, &set, portfolios, workers, &OpenGate);
+        assert_eq!(rt;
+            text.expect(rt, "a statement").as_slice(),
+            two_commodities::STATEMENT
+        );
+    }
 }
 
 // The total of an outcome that has a row.
@@ -272,6 +294,7 @@ fn calls_succeed(rt: HostRuntime) {
     of_two_sets(&rt, alloc);
     of_rows(&rt, alloc);
     of_rows_together(&rt, alloc);
+    of_text_together(&rt, alloc);
     of_teams(&rt, alloc);
     of_reasons(&rt, alloc);
     of_two_accounts(&rt, alloc);

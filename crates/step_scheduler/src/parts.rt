@@ -1,16 +1,14 @@
 //! The figures of all commodities of a job, its total and its option value, computed without storing the value of each
 //! step.
-ghost use Rattle.std.specs.Prelude.{◌≡◌, ◌<◌, ◌≤◌, ◌+ℤ◌, All, IfOk, List, OnOk, fold, length, nat_abs, pos, replicate};
+ghost use Rattle.std.specs.Prelude.{◌≡◌, ◌<◌, ◌≤◌, ◌+ℤ◌, All, IfOk, List, OnOk, fold, length, nat_abs, pos};
 ghost use Rattle.std.specs.Prelude.{slice_set, true};
 ghost use Rattle.span_money.specs.declared.amounts.TheConstants.{MAX_MONEY};
-ghost use Rattle.span_tables.specs.Accepted.{IsInter, IsIntra};
 ghost use Rattle.span_tables.specs.Holdings.{fits};
-ghost use Rattle.span_tables.specs.Tables.{facts_in};
+ghost use Rattle.span_tables.specs.Tables.{commodity_id, facts_in};
 ghost use Rattle.span_tables.specs.declared.portfolios.Holding.{Holding};
-ghost use Rattle.spread_stage.specs.Months.{Shrinks};
-ghost use Rattle.spread_stage.specs.Spreads.{spread_both_ways};
-ghost use Rattle.spread_stage.specs.declared.months.MonthUnits.{MonthUnits};
-ghost use Rattle.inter_credit.specs.Credits.{inter_both_ways, unspread_state};
+ghost use Rattle.span_tables.specs.near.Runs.{AreByCommodity};
+ghost use Rattle.spread_stage.specs.near.SetPlans.{ArePlans, IsPlan};
+ghost use Rattle.inter_credit.specs.Credits.{unspread_state};
 ghost use Rattle.inter_credit.specs.OptionValue.{net_value_of};
 ghost use Rattle.plan_ir.specs.Figures.{held_at, inter_states, loaded_states, option_value_of, total_to};
 ghost use Rattle.step_scheduler.specs.near.Figures.{AreHeldFigures};
@@ -25,30 +23,18 @@ use plan_ir::figures::Figures;
 use scan_risk::scanning::scan;
 use scan_risk::scenarios::sums;
 use span_money::amounts::Money;
-use span_tables::held::{Held, gather_held};
-use span_tables::portfolios::Portfolio;
-use span_tables::records::{Inter, Intra};
+use span_tables::held::HeldRun;
+use span_tables::portfolios::{Holding, Portfolio};
+use span_tables::runs::{end_of_run, rise_by_commodity, sort_by_commodity};
 use span_tables::tables::Tables;
-use spread_stage::charges::delivery;
 use spread_stage::months::Months;
-use spread_stage::tiers::TierState;
+use spread_stage::tier_plans::TierPlan;
+use spread_stage::tier_sums::TierRun;
 use std::alloc::{AllocError, Global};
-
-// Forms the spreads of a commodity, in order.
-#[inline(always)]
-fn form_intras(tiers: &mut TierState, intras: &[Intra])
-    requires { All IsIntra intras.now }
-    ensures value { tiers.new ≡ fold spread_both_ways tiers.old intras.now }
-    ensures shrinks { (months : List MonthUnits) → Shrinks months tiers.old.rests → Shrinks months tiers.new.rests }
-{
-    for intra in intras {
-        tiers.spread(intra);
-    }
-}
 
 // Returns the option value of a commodity, or 0 if options have no value.
 #[inline(always)]
-fn worth_of(tables: &Tables, held: &Held) -> Money
+fn worth_of(tables: &Tables, held: &HeldRun<'_>) -> Money
     ensures { (facts_in tables.now).options_have_value ≡ true → result ≡ net_value_of held.now }
 {
     if !tables.facts().options_have_value {
@@ -62,23 +48,25 @@ fn worth_of(tables: &Tables, held: &Held) -> Money
 #[inline(always)]
 fn part_of(
     tables: &Tables,
+    plan: &TierPlan,
     commodity: usize,
-    held: &Held,
+    held: &HeldRun<'_>,
     months: &mut Months,
-    tiers: &mut TierState,
+    tiers: &mut TierRun,
 ) -> Result<Part, AllocError>
-    requires { commodity < length tables.now.commodities }
+    requires commodity { commodity < length tables.now.commodities }
+    requires plan { IsPlan tables.now (commodity_id tables.now commodity) plan.now }
     ensures commodity { IfOk result (λ part. part.commodity ≡ commodity) }
     ensures part { IfOk result (λ part. (holdings : List Holding) → held.now ≡ held_at tables.now holdings commodity
         → IsPart tables.now holdings part) }
 {
+    tables.known();
     let of = &tables.commodities()[commodity];
     let sums = sums(held);
     let scan = scan(&sums);
     months.refill(held)?;
-    tiers.restart(months)?;
-    form_intras(tiers, tables.intras(commodity));
-    let delivery = delivery(months, tiers, tables.spots(commodity));
+    tiers.run(held, months, plan)?;
+    let delivery = tiers.delivery(months, tables.spots(commodity));
     let minimum = minimum(held, of.minimum_rate, of.method);
     Ok(Part {
         commodity,
@@ -91,30 +79,65 @@ fn part_of(
     })
 }
 
-// Computes the part of each held commodity of a job, in ascending order of number. Replaces the parts in `memory`.
-pub(crate) fn find_parts(
-    alloc: Global,
+// Computes the part of each held commodity of a job, in ascending order of number, from its holdings by commodity.
+// Replaces the parts.
+fn parts_of_runs(
     tables: &Tables,
+    plans: &[TierPlan],
+    portfolio: &Portfolio,
+    holdings: &[Holding],
+    months: &mut Months,
+    tiers: &mut TierRun,
+    parts: &mut Vec<Part>,
+) -> Result<(), AllocError>
+    requires plans { ArePlans tables.now plans.now }
+    requires fits { fits (length tables.now.contracts) portfolio.now.holdings ≡ true }
+    requires holdings { AreByCommodity tables.now portfolio.now.holdings holdings.now }
+    ensures { OnOk result (ArePartsFrom tables.now portfolio.now.holdings 0 parts.new.items) }
+{
+    tables.known();
+    portfolio.known();
+    parts.clear();
+    let mut done = 0;
+    while done < holdings.len() {
+        let commodity = tables.commodity_of(holdings[done].contract);
+        let end = end_of_run(tables, holdings, done + 1, commodity);
+        let held = HeldRun::of(tables, &holdings[done..end]);
+        let plan = &plans[commodity];
+        let part = part_of(tables, plan, commodity, &held, months, tiers)?;
+        parts.push(part)?;
+        done = end;
+    }
+    Ok(())
+}
+
+// Computes the part of each held commodity of a job, in ascending order of number. Replaces the parts in `memory`.
+//
+// The holdings of each commodity are read where they are in the portfolio if commodity numbers rise along it, as they
+// usually do.
+pub(crate) fn find_parts(
+    tables: &Tables,
+    plans: &[TierPlan],
     portfolio: &Portfolio,
     memory: &mut RunMemory,
 ) -> Result<(), AllocError>
-    requires { fits (length tables.now.contracts) portfolio.now.holdings ≡ true }
+    requires plans { ArePlans tables.now plans.now }
+    requires fits { fits (length tables.now.contracts) portfolio.now.holdings ≡ true }
     ensures { OnOk result (ArePartsFrom tables.now portfolio.now.holdings 0 memory.new.parts.items) }
 {
     let RunMemory {
-        held,
+        sorted,
         months,
         tiers,
         parts,
+        ..
     } = memory;
-    gather_held(alloc, tables, portfolio, held)?;
-    parts.clear();
-    parts.reserve(held.found.len())?;
-    for one in &held.found {
-        let part = part_of(tables, one.commodity, &one.held, months, tiers)?;
-        parts.push(part)?;
+    let holdings = portfolio.holdings();
+    if rise_by_commodity(tables, holdings) {
+        return parts_of_runs(tables, plans, portfolio, holdings, months, tiers, parts);
     }
-    Ok(())
+    sort_by_commodity(tables, holdings, sorted)?;
+    parts_of_runs(tables, plans, portfolio, sorted, months, tiers, parts)
 }
 
 // Loads the net delta and the price risk of a commodity.
@@ -126,37 +149,26 @@ fn load_part(states: &mut InterState, part: &Part)
     states.load(part.commodity, part.net, part.scan.price2);
 }
 
-// Returns the commodities before any spread between them.
-pub(crate) fn loaded(
+// Replaces the states by the commodities before any spread between them.
+pub(crate) fn load_all(
     alloc: Global,
     tables: &Tables,
     portfolio: &Portfolio,
     parts: &[Part],
-    blank: &InterState,
-) -> Result<InterState, AllocError>
-    requires blank { blank.now ≡ replicate (length tables.now.commodities) (unspread_state (pos 0) 0) }
+    states: &mut InterState,
+) -> Result<(), AllocError>
     requires fits { fits (length tables.now.contracts) portfolio.now.holdings ≡ true }
     requires parts { ArePartsFrom tables.now portfolio.now.holdings 0 parts.now }
-    ensures value { IfOk result (λ states. states ≡ loaded_states tables.now portfolio.now.holdings) }
-    ensures long { IfOk result (λ states. length states ≡ length tables.now.commodities) }
+    ensures value { OnOk result (states.new ≡ loaded_states tables.now portfolio.now.holdings) }
+    ensures long { OnOk result (length states.new ≡ length tables.now.commodities) }
 {
     tables.known();
     portfolio.known();
-    let mut states = blank.copied(alloc)?;
+    states.restart(alloc, tables.commodities().len())?;
     for part in parts {
-        load_part(&mut states, part);
+        load_part(states, part);
     }
-    Ok(states)
-}
-
-// Forms the spreads between commodities, in order.
-pub(crate) fn form_inters(states: &mut InterState, inters: &[Inter])
-    requires { All (IsInter (length states.old)) inters.now }
-    ensures { states.new ≡ fold inter_both_ways states.old inters.now }
-{
-    for inter in inters {
-        states.spread(inter);
-    }
+    Ok(())
 }
 
 // Returns the figures of a held commodity, from its part and the commodities after all spreads between them.

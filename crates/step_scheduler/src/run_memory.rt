@@ -2,11 +2,12 @@
 ghost use Rattle.spread_stage.specs.Spreads.{unspread};
 ghost use Rattle.std.specs.Prelude.{◌≡◌, []};
 
+use inter_credit::state::InterState;
 use scan_risk::Scan;
 use span_money::amounts::{Money, Units};
-use span_tables::held::HeldMemory;
+use span_tables::portfolios::Holding;
 use spread_stage::months::Months;
-use spread_stage::tiers::TierState;
+use spread_stage::tier_sums::TierRun;
 use std::alloc::Global;
 
 // The values of a held commodity before any spread between commodities: its number, its scan, its net delta, the exact
@@ -26,25 +27,29 @@ pub(crate) struct Part {
 /// the accounts of a batch one after another, and a run allocates less memory of its own.
 #[derive(Drop)]
 pub struct RunMemory {
-    pub(crate) held: HeldMemory,
+    // The holdings of an account by commodity, if they are in another order in its portfolio.
+    pub(crate) sorted: Vec<Holding>,
     pub(crate) months: Months,
-    pub(crate) tiers: TierState,
+    pub(crate) tiers: TierRun,
     pub(crate) parts: Vec<Part>,
+    pub(crate) states: InterState,
 }
 
 impl RunMemory {
     /// Creates memory that no run has used yet. It allocates nothing.
     pub fn new(alloc: Global) -> RunMemory
-        ensures held { result.held.found.items ≡ [] }
+        ensures sorted { result.sorted.items ≡ [] }
         ensures months { result.months ≡ [] }
         ensures tiers { result.tiers ≡ unspread [] }
         ensures parts { result.parts.items ≡ [] }
+        ensures states { result.states ≡ [] }
     {
         RunMemory {
-            held: HeldMemory::new(alloc),
+            sorted: Vec::new(alloc),
             months: Months::none(alloc),
-            tiers: TierState::none(alloc),
+            tiers: TierRun::none(alloc),
             parts: Vec::new(alloc),
+            states: InterState::none(alloc),
         }
     }
 }

@@ -7,7 +7,7 @@ use crate::courses::Course;
 use crate::events::Event;
 use crate::held_figures::HeldFigures;
 use crate::jobs::Job;
-use crate::parts::{figures_of_all, find_parts, form_inters, loaded, total_of, value_of_all};
+use crate::parts::{figures_of_all, find_parts, load_all, total_of, value_of_all};
 use crate::run_memory::RunMemory;
 use span_money::amounts::Money;
 use std::alloc::{AllocError, Global};
@@ -37,11 +37,11 @@ impl Whole {
     {
         let tables = job.set().tables();
         let portfolio = job.portfolio();
-        find_parts(alloc, tables, portfolio, memory)?;
-        let parts = memory.parts.as_slice();
-        let mut states = loaded(alloc, tables, portfolio, parts, course.blank())?;
-        form_inters(&mut states, tables.inters());
-        let figures = figures_of_all(alloc, tables, portfolio, parts, &states)?;
+        find_parts(tables, course.plans(), portfolio, memory)?;
+        let RunMemory { parts, states, .. } = memory;
+        load_all(alloc, tables, portfolio, parts, states)?;
+        states.spread_all(course.index(), tables.inters());
+        let figures = figures_of_all(alloc, tables, portfolio, parts, states)?;
         let total = total_of(tables, portfolio, parts, &figures);
         let value = value_of_all(tables, portfolio, parts);
         Ok(Whole {

@@ -38,8 +38,8 @@ impl<G: Gate> Watch for StepsOf<'_, G> {
     }
 }
 
-/// Runs of one account after another under a parameter set, on one thread. The set's course is made once, and the runs
-/// share their working memory.
+/// Runs of one account after another under a parameter set, on one thread. They follow one course of the set, and share
+/// their working memory.
 ///
 /// The value of this type in contracts is the parameter set.
 #[derive(Drop)]
@@ -63,11 +63,18 @@ impl Runs {
         ensures { IfOk result (λ runs. runs ≡ arc_value set.now) }
     {
         let course = Course::of(alloc, set)?;
-        Ok(Runs {
+        Ok(Runs::along(alloc, course))
+    }
+
+    /// Creates the runs along a course, under its parameter set, before the first run.
+    pub fn along(alloc: Global, course: Course) -> Runs
+        ensures { result ≡ course.set }
+    {
+        Runs {
             alloc,
             course,
             memory: RunMemory::new(alloc),
-        })
+        }
     }
 
     /// Returns the row of an account. The portfolio fits the set's tables. If memory runs out, the next account can
@@ -77,37 +84,20 @@ impl Runs {
         ensures same { self.new ≡ self.old }
         ensures row { IfOk result (λ row. arc_value row ≡ record { set = self.old; portfolio = portfolio }) }
     {
-        self.watched_row(portfolio, 0, &NoWatch)
+        self.watched_row(portfolio, &NoWatch)
     }
 
-    // Returns the row of the account at an index of its batch. Calls the watch for each step.
-    fn watched_row<W: Watch>(
+    /// Returns the row of an account, computed by the coordinator of a team, which passes a gate before each
+    /// evaluation. Otherwise like [`Runs::row`].
+    pub fn row_of<G: Gate>(
         &mut self,
         portfolio: Portfolio,
-        place: usize,
-        watch: &W,
+        team: Team,
+        gate: &G,
     ) -> Result<Arc<Row>, AllocError>
         requires { FitsSet self.old portfolio }
         ensures same { self.new ≡ self.old }
         ensures row { IfOk result (λ row. arc_value row ≡ record { set = self.old; portfolio = portfolio }) }
-    {
-        let set = Arc::try_clone(self.course.set())?;
-        let job = Arc::new(self.alloc, Job::new(set, portfolio, place))?;
-        let board = Board::whole(self.alloc, job, &self.course, &mut self.memory, watch)?;
-        Row::from_board(self.alloc, board)
-    }
-
-    // Returns the outcome of the account at an index of its batch. Passes the gate before each evaluation.
-    fn outcome<G: Gate>(
-        &mut self,
-        portfolio: Portfolio,
-        place: usize,
-        team: Team,
-        gate: &G,
-    ) -> Outcome
-        requires { FitsSet self.old portfolio }
-        ensures same { self.new ≡ self.old }
-        ensures outcome { IsOutcome self.old portfolio result }
     {
         let account = portfolio.account().copied();
         let steps = StepsOf {
@@ -115,7 +105,33 @@ impl Runs {
             team,
             account: &account,
         };
-        let row = self.watched_row(portfolio, place, &steps);
+        self.watched_row(portfolio, &steps)
+    }
+
+    // Returns the row of an account. Calls the watch for each step. The account is a batch of its own.
+    fn watched_row<W: Watch>(
+        &mut self,
+        portfolio: Portfolio,
+        watch: &W,
+    ) -> Result<Arc<Row>, AllocError>
+        requires { FitsSet self.old portfolio }
+        ensures same { self.new ≡ self.old }
+        ensures row { IfOk result (λ row. arc_value row ≡ record { set = self.old; portfolio = portfolio }) }
+    {
+        let set = Arc::try_clone(self.course.set())?;
+        let job = Arc::new(self.alloc, Job::new(set, portfolio, 0))?;
+        let board = Board::whole(self.alloc, job, &self.course, &mut self.memory, watch)?;
+        Row::from_board(self.alloc, board)
+    }
+
+    // Returns the outcome of an account. Passes the gate before each evaluation.
+    fn outcome<G: Gate>(&mut self, portfolio: Portfolio, team: Team, gate: &G) -> Outcome
+        requires { FitsSet self.old portfolio }
+        ensures same { self.new ≡ self.old }
+        ensures outcome { IsOutcome self.old portfolio result }
+    {
+        let account = portfolio.account().copied();
+        let row = self.row_of(portfolio, team, gate);
         Outcome::of(account, row)
     }
 }
@@ -135,8 +151,7 @@ pub(crate) fn run_on_one<G: Gate>(
     let mut runs = Runs::new(alloc, set)?;
     let mut outcomes = Vec::with_capacity(alloc, portfolios.len())?;
     for portfolio in portfolios {
-        let place = outcomes.len();
-        outcomes.push(runs.outcome(portfolio, place, team, gate))?;
+        outcomes.push(runs.outcome(portfolio, team, gate))?;
     }
     Ok(outcomes)
 }

@@ -1,2 +1,3 @@
 pub mod JoinLemmas
 pub mod OutcomeRowLemmas
+pub mod TextLemmas

@@ -6,4 +6,5 @@ mod cuts;
 pub mod laws;
 pub mod rows;
 pub mod teams;
+pub mod texts;
 mod worked;

@@ -1,7 +1,6 @@
 -- The values of held commodities in a whole run, and the figures from them.
 use Rattle.std.specs.Prelude.{◌≡◌, ℕ, ◌+◌, ◌*◌, ◌<◌, ◌≤◌, true, List, [], ◌∷◌, length, nat_abs, pos}
 use Rattle.span_tables.specs.Tables.{AcceptedTables, facts_in}
-use Rattle.span_tables.specs.declared.held.CommodityHeld.{CommodityHeld}
 use Rattle.span_tables.specs.declared.limits.TheConstants.{MAX_PRICE2, MAX_RATE, MAX_UNITS}
 use Rattle.span_tables.specs.declared.portfolios.Holding.{Holding}
 use Rattle.spread_stage.specs.Deltas.{net_delta}
@@ -28,12 +27,6 @@ pub record IsNext (t : AcceptedTables) (holdings : List Holding) (from c : ℕ) 
 pub record IsEnd (t : AcceptedTables) (holdings : List Holding) (from : ℕ) : Type 0 where
   pub behind : from ≤ length t.commodities
   pub none : NoneHeld t holdings from (length t.commodities)
-
--- the held contracts of the held commodities from number `from` on, in ascending order
-abbrev pub AreHeldFrom : AcceptedTables → List Holding → ℕ → List CommodityHeld → Type 0
-AreHeldFrom t holdings from [] = IsEnd t holdings from
-AreHeldFrom t holdings from (h ∷ hs) =
-    IsNext t holdings from h.commodity × (h.held ≡ held_at t holdings h.commodity) × AreHeldFrom t holdings (h.commodity + 1) hs
 
 -- the part has the values of its commodity before any spread between commodities, and its option value if options have
 -- one

@@ -14,11 +14,11 @@ loop-place-preserved c =
     let before = c.loop-place.invariant in
     let sum = to_z w64 c.loop-place.sum-bits in
     let worth = c.worth-sum.result in
-    let more = net_value_more held i c.contract.result.now c.net.result (omega arith) c.contract.ensures.value c.net.ensures.value in
+    let more = net_value_more held i c.terms.result.now c.net.result (omega arith) c.terms.ensures.value c.net.ensures.value in
     let fits : FitsSigned w64 c.net.result = search rules in
-    let is : worth ≡ c.net.result *ℤ pos c.contract.result.now.extras.option_value =
+    let is : worth ≡ c.net.result *ℤ pos c.terms.result.now.option_value =
     c.worth-sum.ensures.value
-    ∙ ap (λ n. n *ℤ pos c.contract.result.now.extras.option_value) (to_z-of_z w64 c.net.result fits) in
+    ∙ ap (λ n. n *ℤ pos c.terms.result.now.option_value) (to_z-of_z w64 c.net.result fits) in
     let kept = same_64 worth MAX_POSITION_VALUE c.worth-sum.ensures.bound (lit< tt) in
     let size : nat_abs (sum +ℤ worth) ≤ (i + 1) * MAX_POSITION_VALUE =
     omega (arith, ints, before.bound, c.worth-sum.ensures.bound) in

@@ -8,14 +8,14 @@ use Rattle.inter_credit.proofs.requirement.short_counts.Goals.{in-Future, in-Cal
 
 pub loop-place-preserved : goal.loop-place-preserved
 loop-place-preserved c =
-    let calls = short_count_more is_call c.args.held.now c.loop-place.place c.contract.result.now c.net.result
-    (omega arith) c.contract.ensures.value c.net.ensures.value in
-    let puts = short_count_more is_put c.args.held.now c.loop-place.place c.contract.result.now c.net.result
-    (omega arith) c.contract.ensures.value c.net.ensures.value in
+    let calls = short_count_more is_call c.args.held.now c.loop-place.place c.terms.result.now c.net.result
+    (omega arith) c.terms.ensures.value c.net.ensures.value in
+    let puts = short_count_more is_put c.args.held.now c.loop-place.place c.terms.result.now c.net.result
+    (omega arith) c.terms.ensures.value c.net.ensures.value in
     let before = c.loop-place.invariant in
     let short : c.short_part-short.result ≡ negative_part c.net.result = search rules in
     let small : c.short_part-short.result ≤ MAX_NET = search rules in
-    elim c.match-contract.branch [
+    elim c.match-terms.branch [
       | in-Future w ↦
           let call = ap (λ k. cond (is_call k) (negative_part c.net.result) 0) w.in-Future.is in
           let put = ap (λ k. cond (is_put k) (negative_part c.net.result) 0) w.in-Future.is in

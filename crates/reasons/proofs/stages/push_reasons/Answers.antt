@@ -12,11 +12,13 @@ returns c = λ holdings is.
     let t = c.args.tables.now in
     let i = c.args.commodity in
     let stages = c.stages.view_is ∙ is in
-    let held = c.index-held.result.now in
+    let read = c.index.result.now in
+    let held = c.run-held.result in
     let state = c.index-states-commodity.result in
     let commodity = c.index-commodities-commodity.result in
     let held_is : held ≡ held_at t holdings i =
-    c.index-held.ensures ∙ ap (λ hs. get_or hs i held) (ap (λ s. s.held) stages) ∙ held_read t holdings i held c.requires.commodity in
+    c.run-held.ensures ∙ (c.index.ensures ∙ ap (λ hs. get_or hs i read) (ap (λ s. s.held) stages)
+    ∙ held_read t holdings i read c.requires.commodity) in
     let states : c.states.result.now ≡ inter_states t holdings = c.states.ensures.value ∙ ap (λ s. s.states) stages in
     let among : i < length (inter_states t holdings) =
     omega (arith, c.requires.states, ap (λ s. length s.states) is) in

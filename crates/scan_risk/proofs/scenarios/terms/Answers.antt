@@ -11,16 +11,16 @@ nets_are nets vs net fits sixteen is = rw (sixteen, is, to_z-of_z w64 net fits) 
 
 pub overflow_mul-result : goal.overflow_mul-result
 overflow_mul-result c =
-    let vs = c.args.contract.now.values in
-    let nets = nets_are c.net_lanes.result vs c.args.net c.ranges.net c.requires.contract.sixteen c.net_lanes.ensures in
-    rw (nets, c.value_lanes.ensures) (terms_fit c.args.net vs c.requires.net c.requires.contract.values)
+    let vs = c.args.of.now.values in
+    let nets = nets_are c.net_lanes.result vs c.args.net c.ranges.net c.requires.of.sixteen c.net_lanes.ensures in
+    rw (nets, c.value_lanes.ensures) (terms_fit c.args.net vs c.requires.net c.requires.of.values)
 
 pub returns-clause-value : goal.returns-clause-value
 returns-clause-value c =
-    let vs = c.args.contract.now.values in
-    let nets = nets_are c.net_lanes.result vs c.args.net c.ranges.net c.requires.contract.sixteen c.net_lanes.ensures in
-    rw (nets, c.value_lanes.ensures) (terms_are c.args.net vs c.requires.net c.requires.contract.values)
+    let vs = c.args.of.now.values in
+    let nets = nets_are c.net_lanes.result vs c.args.net c.ranges.net c.requires.of.sixteen c.net_lanes.ensures in
+    rw (nets, c.value_lanes.ensures) (terms_are c.args.net vs c.requires.net c.requires.of.values)
 
 pub returns-clause-bound : goal.returns-clause-bound
 returns-clause-bound c =
-    rw (returns-clause-value c) (terms_small c.args.net c.args.contract.now.values c.requires.net c.requires.contract.values)
+    rw (returns-clause-value c) (terms_small c.args.net c.args.of.now.values c.requires.net c.requires.of.values)

@@ -15,7 +15,7 @@ use Rattle.span_tables.proofs.held.gather.Goals.{then-commodity_of-commodity+in_
 
 pub loop-holding-preserved : goal.loop-holding-preserved
 loop-holding-preserved c =
-    let more = one_more c.args.tables.now c.holdings-holding-items.result.now c.loop-holding.holding-index _ _ c.known.ensures
+    let more = one_more c.args.tables.now c.known.ensures c.holdings-holding-items.result.now c.loop-holding.holding-index _ _
     c.loop-holding-test.true
     (known_holding _ _ _ _ _ c.holdings-holding-items.ensures.value c.loop-holding-test.true c.requires.fits)
     c.commodity_of.ensures.value c.args.commodity in

@@ -21,7 +21,11 @@ loop-holding-preserved c = (
       c.loop-holding-test.true
       (known_holding _ _ _ _ _ c.holdings-holding-items.ensures.value c.loop-holding-test.true c.requires)
       c.commodity_of.ensures.value _
-      (omega (arith, c.loop-holding.invariant.0, c.commodity_of.ensures.known, c.known.ensures.commodities))
+      (
+      let known = c.commodity_of.ensures.known
+      (known_holding _ _ _ _ _ c.holdings-holding-items.ensures.value c.loop-holding-test.true c.requires) in
+      omega (arith, c.loop-holding.invariant.0, known, c.known.ensures.commodities)
+      )
       c.loop-holding.invariant.1,
 )
 

@@ -1,5 +1,5 @@
 use Rattle.std.proofs.Common.{◌≡◌, ◌≤◌, ◌<◌, ◌+◌, ◌*◌, ◌++◌, nat_abs, sym, ap, ◌∙◌, subst, arith, length}
-use Rattle.std.proofs.Common.{take, suc, ◌∷◌, [], lit<, ℤ, FitsSigned, to_z, of_z, w64, rules, true, leb}
+use Rattle.std.proofs.Common.{take, suc, ◌∷◌, [], lit<, ℤ, ◌*ℤ◌, pos, FitsSigned, to_z, of_z, w64, rules, true, leb}
 use Rattle.std.proofs.lemmas.Bool.Decides.{nat_tests}
 use Rattle.std.proofs.lemmas.List.{take_all}
 use Rattle.std.proofs.Math.Seq.{take-suc}
@@ -14,6 +14,7 @@ use Rattle.spread_stage.specs.Deltas.{month_deltas, units_of}
 use Rattle.spread_stage.specs.near.Uses.{gathered, with_units, with_units_last}
 use Rattle.spread_stage.proofs.SpreadBounds.{months_are}
 use Rattle.spread_stage.proofs.ForwardLemmas.{month_deltas-push}
+use Rattle.spread_stage.proofs.DeltaLemmas.{times_scaled}
 use Rattle.spread_stage.proofs.GatherLemmas.{NoneLater, gathered-last, gathered-rise, none_later_after, none_later_than}
 use Rattle.spread_stage.proofs.GatherLemmas.{rise_after, size-last}
 use Rattle.spread_stage.proofs.deltas.refilled.Goals.{then-rise, else-rise}
@@ -24,18 +25,20 @@ loop-i-preserved c =
     let held = c.args.held.now in
     let i = c.loop-i.i in
     let had = c.loop-i.months.items in
-    let h : HeldContract = record { contract = c.contract-contract.result.now; net = c.net.result } in
-    let month = (h.contract).month in
+    let of = c.terms-terms.result.now in
+    let month = of.month in
     let lt : i < length held = search rules in
-    let at = held_here held i h.contract h.net lt c.contract-contract.ensures.value c.net.ensures.value in
+    let here = held_here held i of c.net.result lt c.terms-terms.ensures.value c.net.ensures.value in
+    let h = here.0 in
+    let at = here.1 in
     let one : i + 1 ≡ suc i = omega arith in
     let more : take (i + 1) held ≡ take i held ++ h ∷ [] =
     ap (λ n. take n held) one ∙ take-suc held i h lt ∙ ap (λ (x : HeldContract). take i held ++ x ∷ []) (sym at) in
     let fits : FitsSigned w64 c.net.result = search rules in
     let same_net : to_z w64 (of_z w64 c.net.result) ≡ c.net.result = to_z-of_z w64 c.net.result fits in
     let units : c.units_of.result ≡ units_of h =
-    c.units_of.ensures.value
-    ∙ ap (λ (n : ℤ). (let k : HeldContract = record { contract = h.contract; net = n } in units_of k)) same_net in
+    c.units_of.ensures.value ∙ ap (λ (n : ℤ). n *ℤ of.units) same_net ∙ (λ j. here.3 j *ℤ here.2.units j)
+    ∙ times_scaled h.net (h.contract).delta (h.contract).scale in
     let bound : nat_abs c.units_of.result ≤ MAX_NET * MAX_DELTA * MAX_SCALE = c.units_of.ensures.bound in
     let kept = same_64 c.units_of.result (MAX_NET * MAX_DELTA * MAX_SCALE) bound (lit< tt) in
     let added : c.add.new.months.items ≡ with_units_last month c.units_of.result had =
@@ -47,6 +50,7 @@ loop-i-preserved c =
       value = ap gathered added ∙ gathered-last month c.units_of.result had
           ∙ ap (λ u. with_units month u (gathered had)) units
           ∙ ap (with_units month (units_of h)) c.loop-i.invariant.value
+          ∙ ap (λ m. with_units m (units_of h) (month_deltas (take i held))) here.2.month
           ∙ month_deltas-push (take i held) h ∙ ap month_deltas (sym more);
       rise = λ yes.
           elim c.if-rise.branch [

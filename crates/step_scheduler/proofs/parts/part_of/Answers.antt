@@ -1,14 +1,25 @@
-use Rattle.std.proofs.Common.{◌≡◌, ap, ◌∙◌, get_or}
-use Rattle.std.specs.Prelude.{pos}
+use Rattle.std.proofs.Common.{◌≡◌, ap, ◌∙◌, get_or, List, subst, sym}
+use Rattle.std.specs.Prelude.{All, pos}
 use Rattle.std.proofs.lemmas.List.{get_or_default}
+use Rattle.span_tables.specs.Accepted.{IsIntra}
+use Rattle.span_tables.specs.declared.records.Intra.{Intra}
 use Rattle.scan_risk.specs.Scenarios.{scan_of, scenario_sums}
 use Rattle.spread_stage.specs.Charges.{delivery_charge}
 use Rattle.spread_stage.specs.Deltas.{month_deltas, net_delta}
+use Rattle.spread_stage.specs.Spreads.{after_spreads}
 use Rattle.inter_credit.specs.OptionValue.{net_value_of}
 use Rattle.inter_credit.specs.Requirement.{minimum_of}
 use Rattle.plan_ir.specs.Figures.{commodity_at, deltas_at, no_commodity, tiers_at}
-use Rattle.plan_compiler.proofs.StageLemmas.{tiers_are}
 use Rattle.step_scheduler.proofs.parts.part_of.Goals as goal
+
+pub run-requires-clause-tiers : goal.run-requires-clause-tiers
+run-requires-clause-tiers c = c.requires.plan.tiers
+
+pub run-requires-clause-known : goal.run-requires-clause-known
+run-requires-clause-known c = c.requires.plan.known
+
+pub run-requires-clause-intras : goal.run-requires-clause-intras
+run-requires-clause-intras c = subst (All IsIntra) (sym c.requires.plan.spreads_are) (c.known.ensures.intras_in_range _)
 
 pub returns-clause-part : goal.returns-clause-part
 returns-clause-part c = λ holdings is.
@@ -16,12 +27,12 @@ returns-clause-part c = λ holdings is.
     let i = c.args.commodity in
     let commodity = c.index-commodities-commodity.result in
     let months : c.refill.new.self ≡ deltas_at t holdings i = c.in_ok-refill.ensures.ok ∙ ap month_deltas is in
-    let tiers : c.form_intras.new.tiers ≡ tiers_at t holdings i =
-    tiers_are t holdings i c.refill.new.self c.restart.new.self c.form_intras.new.tiers c.intras.result.now months
-    c.in_ok-restart.ensures.value c.form_intras.ensures.value c.intras.ensures.value in
+    let tiers : c.run.new.self ≡ tiers_at t holdings i =
+    c.in_ok-run.ensures.value ∙ ap (λ (ss : List Intra). after_spreads ss c.refill.new.self) c.requires.plan.spreads_are
+    ∙ ap (after_spreads _) months in
     let commodity_is : commodity ≡ commodity_at t i =
     c.index-commodities-commodity.is ∙ ap (λ cs. get_or cs i commodity) c.commodities.ensures.value
-    ∙ get_or_default t.commodities i commodity no_commodity c.requires in
+    ∙ get_or_default t.commodities i commodity no_commodity c.requires.commodity in
     record {
       scan = c.scan-scan.ensures.value ∙ ap scan_of (c.sums-sums.ensures.value ∙ ap scenario_sums is);
       net = c.net.ensures.value ∙ ap net_delta months;

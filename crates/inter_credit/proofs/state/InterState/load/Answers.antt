@@ -2,6 +2,7 @@ use Rattle.std.proofs.Common.{◌≡◌, pos, arith}
 use Rattle.std.proofs.lemmas.Int.{ints}
 use Rattle.std.proofs.lemmas.List.Elements.{All-set}
 use Rattle.inter_credit.specs.near.CommodityStates.{IsCommodityState}
+use Rattle.inter_credit.proofs.LoadedLemmas.{load_marked}
 use Rattle.inter_credit.proofs.OpenLemmas.{load_open, loaded_state, nothing_loaded}
 use Rattle.inter_credit.proofs.state.InterState.load.Goals as goal
 
@@ -12,6 +13,7 @@ invariant_of-self c =
           (loaded_state c.args.net c.args.price2 c.requires.net c.requires.price2) c.self.invariant.in_range;
       open_sides = load_open c.self.inside.sides c.with-self-inside.result c.self.inside.commodities.items c.args.commodity _
           c.with-self-inside.ensures.kept c.with-self-inside.ensures.added c.self.invariant.open_sides;
+      are_loaded = load_marked c.self.inside.loaded c.args.commodity c.self.inside.commodities.items _ c.self.invariant.are_loaded;
     })
 
 pub returns-then-price2-eq0-clause-value : goal.returns-then-price2-eq0-clause-value

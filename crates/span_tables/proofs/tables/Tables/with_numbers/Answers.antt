@@ -1,16 +1,45 @@
 use Rattle.span_tables.proofs.WithinLimits.{accepted_intras, accepted_limits, accepted_spots, accepted_tiers}
+use Rattle.span_tables.specs.Tables.{tiers_of}
+use Rattle.span_tables.specs.declared.limits.TheConstants.{MAX_TIERS}
+use Rattle.span_tables.proofs.GroupLemmas.{lengths, lists_few}
 use Rattle.span_tables.proofs.TablesMade.{are_tables}
 use Rattle.span_tables.proofs.tables.Tables.with_numbers.Goals as goal
 
-pub numbers_of-requires : goal.numbers_of-requires
-numbers_of-requires c = rw c.as_slice-commodities.ensures.value (accepted_limits _ c.requires).commodities_apart
+pub of-requires-clause-few : goal.of-requires-clause-few
+of-requires-clause-few c = rw c.as_slice-commodities.ensures.value (accepted_limits _ c.requires).commodities
+
+pub of-requires-clause-apart : goal.of-requires-clause-apart
+of-requires-clause-apart c = rw c.as_slice-commodities.ensures.value (accepted_limits _ c.requires).commodities_apart
+
+pub of-requires-clause-known : goal.of-requires-clause-known
+of-requires-clause-known c = rw c.as_slice-commodities.ensures.value (accepted_limits _ c.requires).contracts_known
+
+pub of-requires-clause-every : goal.of-requires-clause-every
+of-requires-clause-every c = rw c.deref-3.ensures.value (lengths _ _ _ _ c.in_ok-tier_lists.ensures)
+
+pub of-requires-clause-few_tiers : goal.of-requires-clause-few_tiers
+unfolding tiers_of
+of-requires-clause-few_tiers c =
+    rw c.deref-3.ensures.value
+    (lists_few _ _ _ _ MAX_TIERS c.in_ok-tier_lists.ensures
+    (λ w. rw c.as_slice-tiers.ensures.value ((accepted_limits _ c.requires).few_tiers w.id)))
+
+pub of-requires-clause-in_range : goal.of-requires-clause-in_range
+of-requires-clause-in_range c = (accepted_limits _ c.requires).contracts_in_range
+
+pub tiers_by_commodity-requires-clause-apart : goal.tiers_by_commodity-requires-clause-apart
+tiers_by_commodity-requires-clause-apart c = rw c.as_slice-commodities.ensures.value (accepted_limits _ c.requires).commodities_apart
+
+pub tiers_by_commodity-requires-clause-known : goal.tiers_by_commodity-requires-clause-known
+tiers_by_commodity-requires-clause-known c =
+    rw (c.as_slice-commodities.ensures.value, c.as_slice-tiers.ensures.value) (accepted_tiers _ c.requires)
 
 pub intras_by_commodity-requires-clause-apart : goal.intras_by_commodity-requires-clause-apart
 intras_by_commodity-requires-clause-apart c = rw c.as_slice-commodities.ensures.value (accepted_limits _ c.requires).commodities_apart
 
-pub intras_by_commodity-requires-clause-tiers_known : goal.intras_by_commodity-requires-clause-tiers_known
-intras_by_commodity-requires-clause-tiers_known c =
-    rw (c.as_slice-commodities.ensures.value, c.as_slice-tiers.ensures.value) (accepted_tiers _ c.requires)
+pub intras_by_commodity-requires-clause-every : goal.intras_by_commodity-requires-clause-every
+intras_by_commodity-requires-clause-every c =
+    rw c.deref.ensures.value (lengths _ _ _ _ c.in_ok-tier_lists.ensures)
 
 pub intras_by_commodity-requires-clause-known : goal.intras_by_commodity-requires-clause-known
 intras_by_commodity-requires-clause-known c =
@@ -25,9 +54,11 @@ spots_by_commodity-requires-clause-known c =
 
 pub invariant_of-result : goal.invariant_of-result
 invariant_of-result c =
-    let numbers = rw (c.as_slice-commodities.ensures.value, c.deref.ensures.value) at c.in_ok-commodity_numbers.ensures in
-    let intras = rw (c.as_slice-commodities.ensures.value, c.as_slice-tiers.ensures.value, c.as_slice-spreads.ensures.value) at
+    let tiers = rw (c.as_slice-commodities.ensures.value, c.as_slice-tiers.ensures.value) at c.in_ok-tier_lists.ensures in
+    let terms = rw (c.as_slice-commodities.ensures.value, c.deref-3.ensures.value) at c.in_ok-contracts.ensures.terms in
+    let intras = rw (c.as_slice-commodities.ensures.value, c.as_slice-spreads.ensures.value, c.deref.ensures.value) at
     c.in_ok-intras.ensures in
     let spots = rw (c.as_slice-commodities.ensures.value, c.as_slice-spots.ensures.value) at c.in_ok-spot_months.ensures in
     let inters = rw (c.as_slice-commodities.ensures.value, c.deref-2.ensures.value) at c.in_ok-inters.ensures in
-    rw c.in_ok-contracts.ensures.ok (are_tables _ c.requires _ _ _ _ numbers intras spots inters)
+    rw (c.in_ok-contracts-2.ensures.ok, c.in_ok-contracts.ensures.records)
+    (are_tables _ c.requires _ _ _ _ _ (terms _ tiers) (intras _ tiers) spots inters tiers)

@@ -3,4 +3,4 @@ use Rattle.step_scheduler.proofs.whole.Whole.new.Goals as goal
 
 pub figures_of_all-requires-clause-states : goal.figures_of_all-requires-clause-states
 figures_of_all-requires-clause-states c =
-    states_are _ _ _ _ _ c.form_inters.ensures c.in_ok-states.ensures.value c.inters.ensures.value
+    states_are _ _ _ _ _ c.spread_all.ensures.value c.in_ok-load_all.ensures.value c.inters.ensures.value

@@ -1,0 +1,32 @@
+use Rattle.std.proofs.Common.{arith, get_or, pos, ◌≡◌}
+use Rattle.std.proofs.lemmas.List.{get_or_default}
+use Rattle.span_tables.specs.declared.portfolios.Holding.{Holding}
+use Rattle.span_tables.proofs.HeldLemmas.{held_len, of_contract, place_known}
+use Rattle.span_tables.proofs.held.HeldRun.contract.Goals as goal
+
+-- what a look-up past the end gives
+abbrev nothing : Holding
+nothing = record { contract = 0; net = pos 0 }
+
+pub bounds-self-inside-place : goal.bounds-self-inside-place
+bounds-self-inside-place c = let long = held_len _ _ _ c.self.view_is c.self.invariant in omega (arith, long, c.requires)
+
+pub offset_bounds-self-inside-place : goal.offset_bounds-self-inside-place
+offset_bounds-self-inside-place c =
+    let long = held_len _ _ _ c.self.view_is c.self.invariant in record { fits = omega (arith, long, c.requires, c.self.told) }
+
+pub at-requires : goal.at-requires
+at-requires c =
+    let hs = c.self.inside.holdings.now in
+    let long = held_len _ _ _ c.self.view_is c.self.invariant in
+    let h = get_or hs c.args.place nothing in
+    let at = get_or_default hs c.args.place nothing h (omega (arith, long, c.requires)) in
+    place_known _ _ _ c.self.view_is c.self.invariant c.args.place c.requires h at
+
+pub returns : goal.returns
+returns c =
+    let hs = c.self.inside.holdings.now in
+    let long = held_len _ _ _ c.self.view_is c.self.invariant in
+    let h = get_or hs c.args.place nothing in
+    let at = get_or_default hs c.args.place nothing h (omega (arith, long, c.requires)) in
+    of_contract _ _ _ c.self.view_is c.self.invariant c.args.place c.requires (λ x. c.at.result.now ≡ x) h at c.at.ensures

@@ -1,0 +1,65 @@
+-- The terms of contracts, from which figures are computed.
+use Rattle.std.specs.Prelude.{◌≡◌, ◌≤◌, ◌*◌, ◌&&◌, Bool, bytes_eq, filter, nat_le, ℕ, ℤ, ◌*ℤ◌, pos, nat_abs, List}
+use Rattle.std.specs.Prelude.{length, map, All, option_map, slice_get, unwrap_or}
+use Rattle.std.specs.List.{position_or_len}
+use Rattle.span_tables.specs.Accepted.{commodity_number}
+use Rattle.span_tables.specs.declared.contracts.Terms.{Terms}
+use Rattle.span_tables.specs.declared.limits.TheConstants.{MAX_ARRAY_VALUE, MAX_DELTA, MAX_OPTION_VALUE, MAX_SCALE, SCENARIOS}
+use Rattle.span_tables.specs.declared.records.Commodity.{Commodity}
+use Rattle.span_tables.specs.declared.records.Contract.{Contract}
+use Rattle.span_tables.specs.declared.records.Tier.{Tier}
+
+-- the month is in the tier
+abbrev pub has_month : ℕ → Tier → Bool
+has_month month tier = nat_le tier.first month && nat_le month tier.last
+
+-- the number of the tier that a month is in, among the tiers of a commodity, or the number of these if it is in none
+abbrev pub tier_number : List Tier → List ℕ → ℕ → ℕ
+tier_number tiers commodity month = position_or_len (has_month month) (filter (λ t. bytes_eq t.commodity commodity) tiers)
+
+-- the terms of a contract of the commodity and of the tier with these numbers
+abbrev pub numbered_terms : ℕ → ℕ → Contract → Terms
+numbered_terms number tier x = record {
+  values = x.values;
+  units = x.delta *ℤ pos x.scale;
+  month = x.month;
+  option_value = x.extras.option_value;
+  commodity = number;
+  tier = tier;
+  kind = x.kind;
+}
+
+-- the terms of a contract, with the numbers that its commodity and its tier have among these
+abbrev pub terms_of : List Commodity → List Tier → Contract → Terms
+terms_of commodities tiers x =
+    numbered_terms (commodity_number commodities x.commodity) (tier_number tiers x.commodity x.month) x
+
+-- the records and the terms of contracts
+pub record ContractsView : Type 0 where
+  pub records : List Contract
+  pub terms : List Terms
+
+-- the terms are those of the records, for some commodities and tiers
+pub record AreTerms (records : List Contract) (terms : List Terms) : Type 0 where
+  pub commodities : List Commodity
+  pub tiers : List Tier
+  pub are : terms ≡ map (terms_of commodities tiers) records
+
+-- the terms have the fields of the contract's record
+pub record AreTermsOf (x : Contract) (t : Terms) : Type 0 where
+  pub values : t.values ≡ x.values
+  pub units : t.units ≡ x.delta *ℤ pos x.scale
+  pub month : t.month ≡ x.month
+  pub option_value : t.option_value ≡ x.extras.option_value
+  pub kind : t.kind ≡ x.kind
+
+-- the delta, risk array and option value are in range
+pub record IsTerms (t : Terms) : Type 0 where
+  pub units : nat_abs t.units ≤ MAX_DELTA * MAX_SCALE
+  pub sixteen : length t.values ≡ SCENARIOS
+  pub values : All (λ v. nat_abs v ≤ MAX_ARRAY_VALUE) t.values
+  pub option_value : t.option_value ≤ MAX_OPTION_VALUE
+
+-- the commodity number of the contract with a number, or 0 if there is no such contract
+abbrev pub number_at : List Terms → ℕ → ℕ
+number_at terms contract = unwrap_or (option_map (λ t. t.commodity) (slice_get terms contract)) 0

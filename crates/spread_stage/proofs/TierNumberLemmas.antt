@@ -1,0 +1,115 @@
+-- The number of the tier that a month is in.
+use Rattle.std.proofs.Common.{◌≡◌, ◌≢◌, ℕ, suc, ◌+◌, ◌<◌, ◌≤◌, ◌==◌, Bool, true, false, cond, not, List, [], ◌∷◌, ◌++◌}
+use Rattle.std.proofs.Common.{refl, sym, ap, ◌∙◌, subst, arith, get_or, length, take}
+use Rattle.std.specs.Prelude.{nat_lt, pos}
+use Rattle.std.specs.List.{position_or_len}
+use Rattle.std.proofs.lemmas.Bool.Decides.{nat_tests}
+use Rattle.std.proofs.lemmas.List.{get_or-take, get_or_append_left, get_or_default, get_or_push, length-append, length-take}
+use Rattle.std.proofs.lemmas.List.Sums.{position_or_len_is, prefix_len_passes}
+use Rattle.span_tables.specs.declared.records.Tier.{Tier}
+use Rattle.spread_stage.specs.Spreads.{is_in_tier}
+use Rattle.spread_stage.specs.near.TierPlans.{no_tier, tier_at}
+use Rattle.span_tables.specs.near.Terms.{has_month}
+use Rattle.spread_stage.specs.near.TierSums.{AreNumbers, AreTiers, months_of}
+use Rattle.spread_stage.specs.declared.months.MonthUnits.{MonthUnits}
+use Rattle.spread_stage.proofs.TierSumLemmas.{outside}
+
+module _ {X : Type 0} (p : X → Bool) where
+  at_if : (b : Bool) (x : X) (xs : List X) (d : X) (n : ℕ) → p x ≡ b → (n < length xs → p (get_or xs n d) ≡ true)
+      → cond (not b) (1 + n) 0 < length (x ∷ xs) → p (get_or (x ∷ xs) (cond (not b) (1 + n) 0) d) ≡ true
+  at_if true x xs d n is more lt = is
+  at_if false x xs d n is more lt =
+      let one : 1 + n ≡ suc n = omega arith in
+      subst (λ k. p (get_or (x ∷ xs) k d) ≡ true) (sym one) (more (omega (arith, lt)))
+
+  -- the first element that passes passes
+  at_position : (xs : List X) (d : X) → position_or_len p xs < length xs → p (get_or xs (position_or_len p xs) d) ≡ true
+  at_position [] d lt = absurd (omega (arith, lt))
+  at_position (x ∷ xs) d lt = at_if (p x) x xs d (position_or_len p xs) refl (at_position xs d) lt
+
+  before_position : (xs : List X) (k : ℕ) (d : X) → k < position_or_len p xs → p (get_or xs k d) ≡ true → ⊥
+  before_position xs k d lt passes = let none = prefix_len_passes (λ x. not (p x)) xs k d lt in cc
+
+module _ (tiers : List Tier) (are : AreTiers tiers) (m : MonthUnits) (number : ℕ)
+    (is : number ≡ position_or_len (has_month m.month) tiers) where
+  abbrev p : Tier → Bool
+  p = has_month m.month
+
+  here : number < length tiers → p (tier_at tiers number) ≡ true
+  here lt =
+      subst (λ n. p (tier_at tiers n) ≡ true) (sym is) (at_position p tiers no_tier (subst (λ n. n < length tiers) is lt))
+
+  never : (k : ℕ) (b : Bool) → nat_lt k number ≡ b → k < length tiers → k ≢ number → p (tier_at tiers k) ≡ true → ⊥
+  never k true e lt other passes =
+      let below : k < number = grind (arith, nat_tests, e) in
+      before_position p tiers k no_tier (subst (λ n. k < n) is below) passes
+  never k false e lt other passes =
+      let above : number < k = (let le : number ≤ k = grind (arith, nat_tests, e) in omega (arith, le, other)) in
+      are.apart k number lt (omega (arith, above, lt)) other m passes (here (omega (arith, above, lt)))
+
+  equal : (k : ℕ) (b : Bool) → (number == k) ≡ b → k < length tiers → p (tier_at tiers k) ≡ true → true ≡ b
+  equal k true same lt passes = refl
+  equal k false same lt passes =
+      let other : k ≢ number = grind (arith, nat_tests, same) in
+      absurd (never k (nat_lt k number) refl lt other passes)
+
+  different : (k : ℕ) (b : Bool) → (number == k) ≡ b → k < length tiers → p (tier_at tiers k) ≡ false → false ≡ b
+  different k false same lt fails = refl
+  different k true same lt fails =
+      let at : number ≡ k = grind (arith, nat_tests, same) in
+      let passes : p (tier_at tiers k) ≡ true = subst (λ n. p (tier_at tiers n) ≡ true) at (here (omega (arith, at, lt))) in cc
+
+  by_test : (k : ℕ) (b : Bool) → p (tier_at tiers k) ≡ b → k < length tiers → b ≡ (number == k)
+  by_test k true e lt = equal k (number == k) refl lt e
+  by_test k false e lt = different k (number == k) refl lt e
+
+  -- the month is in a tier exactly if the tier has this number
+  pub number_right : (k : ℕ) → k < length tiers → is_in_tier (months_of (tier_at tiers k)) m ≡ (number == k)
+  number_right k lt = by_test k (p (tier_at tiers k)) refl lt
+
+-- a tier that has the month is the first that has it, since no other has it
+pub only_tier : (tiers : List Tier) → AreTiers tiers → (month number : ℕ) (tier : Tier) → number < length tiers
+    → get_or tiers number tier ≡ tier → has_month month tier ≡ true → number ≡ position_or_len (has_month month) tiers
+only_tier tiers are month number tier lt at has =
+    let m : MonthUnits = record { month = month; units = pos 0 } in
+    let here : has_month month (tier_at tiers number) ≡ true =
+    ap (has_month month) (get_or_default tiers number no_tier tier lt ∙ at) ∙ has in
+    sym (position_or_len_is (has_month month) tiers number no_tier (omega (arith, lt))
+    (λ k below. outside (has_month month (tier_at tiers k))
+    (λ passes. are.apart k number (omega (arith, below, lt)) lt (λ e. omega (arith, e, below)) m passes here)) (λ within. here))
+
+module _ (tiers : List Tier) (are : AreTiers tiers) (months : List MonthUnits) (numbers : List ℕ) (i number : ℕ) (lt : i < length months)
+    (m : MonthUnits) (at : m ≡ get_or months i m) (is : number ≡ position_or_len (has_month m.month) tiers)
+    (so_far : AreNumbers tiers (take i months) numbers) where
+  long : length numbers ≡ i
+  long = let e = so_far.long in let n = length-take i months in omega (arith, e, n, lt)
+
+  number_at : (k : ℕ) (b : Bool) → (k == i) ≡ b → k < i + 1 → (x : MonthUnits) (d : ℕ) (t : ℕ) → t < length tiers
+      → is_in_tier (months_of (tier_at tiers t)) (get_or (take (i + 1) months) k x) ≡ (get_or (numbers ++ number ∷ []) k d == t)
+  number_at k true e below x d t in_range =
+      let same : k ≡ i = grind (arith, nat_tests, e) in
+      let month : get_or (take (i + 1) months) k x ≡ m =
+      ap (λ n. get_or (take (i + 1) months) n x) same ∙ get_or-take (i + 1) months i x (omega arith)
+      ∙ get_or_default months i x m lt ∙ sym at in
+      let last : get_or (numbers ++ number ∷ []) k d ≡ number =
+      ap (λ n. get_or (numbers ++ number ∷ []) n d) same ∙ get_or_push numbers number d i long in
+      ap (is_in_tier (months_of (tier_at tiers t))) month ∙ number_right tiers are m number is t in_range
+      ∙ ap (λ n. n == t) (sym last)
+  number_at k false e below x d t in_range =
+      let lt_i : k < i = grind (arith, nat_tests, e, below) in
+      let month : get_or (take (i + 1) months) k x ≡ get_or (take i months) k x =
+      get_or-take (i + 1) months k x (omega (arith, lt_i)) ∙ sym (get_or-take i months k x lt_i) in
+      let old : get_or (numbers ++ number ∷ []) k d ≡ get_or numbers k d =
+      get_or_append_left numbers (number ∷ []) d k (omega (arith, lt_i, long)) in
+      ap (is_in_tier (months_of (tier_at tiers t))) month
+      ∙ so_far.each k (let n = length-take i months in omega (arith, n, lt, lt_i)) x d t in_range ∙ ap (λ n. n == t) (sym old)
+
+  -- one more month has its number
+  pub numbers_more : (now : List ℕ) → now ≡ numbers ++ number ∷ [] → AreNumbers tiers (take (i + 1) months) now
+  numbers_more now step = record {
+    long = (let n = length-take (i + 1) months in let a = ap length step in let b = length-append numbers (number ∷ []) in
+        omega (arith, n, a, b, lt, long));
+    each = λ k below x d t in_range.
+        number_at k (k == i) refl (let n = length-take (i + 1) months in omega (arith, n, lt, below)) x d t in_range
+        ∙ ap (λ ns. get_or ns k d == t) (sym step);
+  }
