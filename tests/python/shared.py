@@ -50,19 +50,20 @@ class Case(unittest.TestCase):
         os.chdir(room.name)
         self.room = Path(room.name)
 
-    def use(self, **variables: str) -> None:
-        """Sets environment variables until the test ends."""
-        patch = mock.patch.dict(os.environ, variables)
+    def enter(self, patch: Any) -> None:
+        """Starts a patch until the test ends."""
         patch.start()
         self.addCleanup(patch.stop)
+
+    def use(self, **variables: str) -> None:
+        """Sets environment variables until the test ends."""
+        self.enter(mock.patch.dict(os.environ, variables))
 
     def use_temporary_directory(self) -> Path:
         """Makes a new directory for temporary files, and returns it."""
         place = self.room / "temporary"
         place.mkdir()
-        patch = mock.patch.object(tempfile, "tempdir", str(place))
-        patch.start()
-        self.addCleanup(patch.stop)
+        self.enter(mock.patch.object(tempfile, "tempdir", str(place)))
         return place
 
     def use_program(self, script: str, version: str = "1.3.0") -> Path:

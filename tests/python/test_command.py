@@ -1,13 +1,17 @@
 """The command `python -m span_margin`: tables, JSON lines and CSV of what span prints, and lines that are not span's."""
+import contextlib
 import csv
+import errno
 import io
 import json
 import os
+import re
 import subprocess
 import sys
 from typing import Any, Tuple
 
 import span_margin as span
+from span_margin import _streams, report
 from shared import EXAMPLES, PARAMS, POSITIONS, Case
 
 STATEMENT, EXPLANATION = EXAMPLES / "statement-broker.csv", EXAMPLES / "explanation-broker.csv"
@@ -18,6 +22,11 @@ def command(*words: str, given: bytes = b"", **options: Any) -> Tuple[int, str, 
     options = {"stdout": subprocess.PIPE, "stderr": subprocess.PIPE, "input": given, **options}
     done = subprocess.run([sys.executable, "-m", "span_margin", *words], check=False, **options)
     return done.returncode, (done.stdout or b"").decode(), (done.stderr or b"").decode()
+
+
+def not_done(what: str, verb: str, number: int) -> str:
+    """The line about a stream that cannot be read or written."""
+    return f"python -m span_margin: the {what} cannot be {verb}: {os.strerror(number)}\n"
 
 
 class Command(Case):
@@ -79,19 +88,52 @@ class Command(Case):
     def test_arguments(self) -> None:
         for words in ((), ("xml",), ("csv", "--major", "x"), ("csv", "--major", "-1"), ("csv", "--only", "X"), ("csv", "file")):
             self.assertEqual(command(*words)[:2], (2, ""))
-        status, out, _ = command("--help")
-        self.assertEqual(status, 0)
-        self.assertIn("--major", out)
+            self.assertEqual(command(*words)[2].count("\n"), 1)
+
+    def test_help(self) -> None:
+        """One help lists the words, and each word has its own. All have the same list of exit statuses."""
+        status, out, err = command("--help")
+        self.assertEqual((status, err), (0, ""))
+        self.assertEqual(re.findall(r"^    (\w+) ", out, re.M), ["table", "json", "csv", "report"])
+        for word, option in (("table", "--major"), ("json", "--only"), ("csv", "--only"), ("report", "--before")):
+            status, text, err = command(word, "--help")
+            self.assertEqual((status, err), (0, ""))
+            self.assertIn(option, text)
+            self.assertEqual(text[text.index("exit status:"):], out[out.index("exit status:"):])
+
+    def test_report(self) -> None:
+        """The word makes the page that the function makes, and both reject what is not an explanation."""
+        self.use(SOURCE_DATE_EPOCH="1763157600")
+        explained = EXPLANATION.read_bytes()
+        page = report.page(explained, major=2, params=PARAMS.read_bytes(), title="Friday")
+        words = ("report", "--major", "2", "--params", str(PARAMS), "--title", "Friday")
+        self.assertEqual(self.printed(*words, given=explained), page)
+        self.assertEqual(report.page(span.explain(PARAMS, POSITIONS), major=2, params=PARAMS.read_bytes(), title="Friday"), page)
+        self.assertEqual(report.page(explained, before=explained), self.printed("report", "--before", str(EXPLANATION), given=explained))
+        message = "the explanation is empty; span prints nothing if it rejects its files"
+        self.assertEqual(str(self.error(report.Rejected, report.page, b"")), message)
+        self.assertEqual(command("report"), (2, "", f"python -m span_margin: {message}\n"))
+        self.assertEqual(command("report", "-o", "none/page.html", given=explained)[0], 6)
+
+    def test_errors_of_span(self) -> None:
+        """A word whose call of span fails ends with the status of span, and its line."""
+
+        def call() -> None:
+            raise span.PositionsError("positions: B1 UnknownContract at record 2 account Y", 4)
+
+        with self.assertRaises(SystemExit) as ended, contextlib.redirect_stderr(None):
+            _streams.finish("python -m span_margin", call)
+        self.assertEqual(ended.exception.code, 4)
 
     def test_output_fails(self) -> None:
         with open("/dev/full", "wb") as full:
-            self.assertEqual(command("csv", given=b"T,A,D1,1\n", stdout=full)[0::2], (6, "python -m span_margin: file: output\n"))
+            self.assertEqual(command("csv", given=b"T,A,D1,1\n", stdout=full)[0::2], (6, not_done("output", "written", errno.ENOSPC)))
         reads, writes = os.pipe()
         os.close(reads)
         done = command("csv", given=STATEMENT.read_bytes() * 100, stdout=writes)
-        self.assertEqual(done[0::2], (6, "python -m span_margin: file: output\n"))
+        self.assertEqual(done[0::2], (6, not_done("output", "written", errno.EPIPE)))
         os.close(writes)
 
     def test_input_fails(self) -> None:
         with open("/dev/null", "wb") as stream:
-            self.assertEqual(command("csv", input=None, stdin=stream), (6, "", "python -m span_margin: file: input\n"))
+            self.assertEqual(command("csv", input=None, stdin=stream), (6, "", not_done("input", "read", errno.EBADF)))

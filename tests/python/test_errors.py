@@ -162,7 +162,7 @@ class Program(Case):
 
     def test_none(self) -> None:
         self.use(SPAN="", PATH="/nowhere")
-        with mock.patch.object(_program, "_CHECKOUT", Path("/nowhere/span")):
+        with mock.patch.object(_program, "_CLONE", Path("/nowhere/span")):
             self.assertIn("there is no program span", str(self.error(span.ProgramError, span.check, PARAMS)))
 
     def test_versions(self) -> None:

@@ -2,6 +2,7 @@
 import email
 import hashlib
 import os
+import platform
 import shutil
 import subprocess
 import sys
@@ -9,19 +10,32 @@ import tarfile
 import unittest
 import zipfile
 from pathlib import Path
-from typing import Dict
+from typing import Dict, Optional, Tuple
+from unittest import mock
 
 import span_margin as span
-from shared import PARAMS, Case
+from span_margin import _program
+from shared import EXAMPLES, PARAMS, POSITIONS, Case
 
 PACKAGE = Path(__file__).resolve().parents[2] / "python"
 WHEEL = f"span_margin-{span.__version__}-py3-none-any.whl"
+PLATFORM = "manylinux_2_34_x86_64"
+WITH_PROGRAM = WHEEL.replace("any", PLATFORM)
+INFO = f"span_margin-{span.__version__}.dist-info"
+
+
+def glibc() -> Tuple[int, ...]:
+    """The version of the C library; () if it is another one."""
+    name, version = platform.libc_ver()
+    return tuple(map(int, version.split("."))) if name == "glibc" else ()
+
+
 HAS_VENV = subprocess.run([sys.executable, "-c", "import venv, ensurepip"], check=False, stderr=subprocess.DEVNULL).returncode == 0
 
 
-def build(hook: str, place: Path, **environment: str) -> str:
+def build(hook: str, place: Path, settings: Optional[Dict[str, str]] = None, **environment: str) -> str:
     """Calls a hook of the build backend, which writes into a directory, and returns the name of the file."""
-    script = f"import sys; sys.path.insert(0, 'backend'); import span_build; print(span_build.{hook}(sys.argv[1]))"
+    script = f"import sys; sys.path.insert(0, 'backend'); import span_build; print(span_build.{hook}(sys.argv[1], {settings!r}))"
     words = [sys.executable, "-B", "-c", script, str(place)]
     return subprocess.check_output(words, cwd=PACKAGE, env={**os.environ, **environment}, text=True).strip()
 
@@ -34,14 +48,64 @@ class Wheel(Case):
 
     def test_files(self) -> None:
         found = self.contents()
-        modules = {f"span_margin/{it.name}": it.read_bytes() for it in (PACKAGE / "src" / "span_margin").iterdir() if it.is_file()}
-        self.assertIn("span_margin/py.typed", modules)
+        files = (it for it in (PACKAGE / "src" / "span_margin").rglob("*") if it.is_file() and it.parent.name != "__pycache__")
+        modules = {str(it.relative_to(PACKAGE / "src")): it.read_bytes() for it in files}
+        for name in ("py.typed", "report/__init__.py", "report/page.css", "report/change.css", "report/page.js"):
+            self.assertIn(f"span_margin/{name}", modules)
         self.assertEqual({name: data for name, data in found.items() if name in modules}, modules)
-        info = f"span_margin-{span.__version__}.dist-info"
-        self.assertEqual(set(found) - set(modules), {f"{info}/METADATA", f"{info}/WHEEL", f"{info}/RECORD"})
-        about = email.message_from_bytes(found[f"{info}/METADATA"])
+        about_files = {f"{INFO}/{name}" for name in ("METADATA", "WHEEL", "RECORD", "entry_points.txt")}
+        self.assertEqual(set(found) - set(modules), about_files)
+        about = email.message_from_bytes(found[f"{INFO}/METADATA"])
         self.assertEqual((about["Name"], about["Version"], about["Requires-Python"]), ("span-margin", span.__version__, ">=3.9"))
         self.assertNotIn("Requires-Dist", about)
+        self.assertEqual(about.get_payload(), (PACKAGE / "README.md").read_text(encoding="utf-8"))
+        self.assertEqual(about["Description-Content-Type"], "text/markdown")
+        self.assertIn("Programming Language :: Python :: 3.9", about.get_all("Classifier"))
+
+    def test_packed(self) -> None:
+        """The report finds its style and script in a wheel that is not unpacked."""
+        build("build_wheel", self.room)
+        words = [sys.executable, "-m", "span_margin", "report"]
+        explained = (EXAMPLES / "explanation-broker.csv").read_bytes()
+        pages = [
+            subprocess.run(words, input=explained, check=True, stdout=subprocess.PIPE, env={
+                **os.environ, "PYTHONPATH": str(place), "SOURCE_DATE_EPOCH": "1763157600"}).stdout
+            for place in (self.room / WHEEL, PACKAGE / "src")
+        ]
+        self.assertIn(b"<style>", pages[0])
+        self.assertEqual(*pages)
+
+    def test_with_program(self) -> None:
+        """The wheel of a platform has the files of the other one, and the program with the record of its proof."""
+        (self.room / "record").write_text("the record\n", encoding="utf-8")
+        plain = self.contents()
+        settings = {"program": os.environ["SPAN"], "platform": PLATFORM, "record": str(self.room / "record")}
+        self.assertEqual(build("build_wheel", self.room, settings), WITH_PROGRAM)
+        with zipfile.ZipFile(WITH_PROGRAM) as archive:
+            found = {name: archive.read(name) for name in archive.namelist()}
+            modes = {it.filename: it.external_attr >> 16 for it in archive.infolist()}
+        own = {"span_margin/bin/span": Path(os.environ["SPAN"]).read_bytes(), "span_margin/bin/PROVED": b"the record\n"}
+        self.assertEqual({name: found.pop(name) for name in own}, own)
+        self.assertEqual((modes["span_margin/bin/span"], modes["span_margin/bin/PROVED"]), (0o100755, 0o100644))
+        tag = email.message_from_bytes(found.pop(f"{INFO}/WHEEL"))
+        self.assertEqual((tag["Tag"], tag["Root-Is-Purelib"]), (f"py3-none-{PLATFORM}", "false"))
+        self.assertEqual(set(plain) - set(found), {f"{INFO}/WHEEL"})
+        self.assertEqual({name for name in found if plain[name] != found[name]}, {f"{INFO}/RECORD"})
+
+    def test_which_program(self) -> None:
+        """The argument, then SPAN, the program in the wheel, PATH and the clone."""
+        for name in ("argument", "environment", "wheel", "path/span", "clone"):
+            (self.room / name).parent.mkdir(exist_ok=True)
+            shutil.copy("/bin/true", self.room / name)
+        self.use(SPAN=str(self.room / "environment"), PATH=str(self.room / "path"))
+        self.enter(mock.patch.object(_program, "_OWN", self.room / "wheel"))
+        self.enter(mock.patch.object(_program, "_CLONE", self.room / "clone"))
+        self.assertEqual(_program.find(self.room / "argument"), str(self.room / "argument"))
+        for name in ("environment", "wheel", "path/span", "clone"):
+            self.assertEqual(_program.find(), str(self.room / name))
+            os.environ.pop("SPAN", None)
+            if name != "environment":
+                (self.room / name).unlink()
 
     def test_same_bytes_each_time(self) -> None:
         for hook in ("build_wheel", "build_sdist"):
@@ -82,3 +146,18 @@ class Installed(Case):
             said = subprocess.check_output([python, "-c", script, str(PARAMS)], env=environment, text=True)
             self.assertTrue(said.startswith(str(self.room / "venv")), said)
             self.assertTrue(said.endswith(" D20251114\n"), said)
+        self.assertEqual(subprocess.check_output([f"{self.room}/venv/bin/span-report", "--version"], text=True),
+                         f"span-report {span.__version__}\n")
+
+    @unittest.skipUnless(glibc() >= (2, 34), "the C library is older than the wheel requires")
+    def test_wheel_with_program(self) -> None:
+        """pip installs one file. Then the package works if there is nothing else, not even a PATH."""
+        subprocess.run([sys.executable, "-m", "venv", "venv"], check=True)
+        python = str(self.room / "venv" / "bin" / "python")
+        wheel = build("build_wheel", self.room, {"program": os.environ["SPAN"], "platform": PLATFORM})
+        environment = {"PIP_NO_INDEX": "1", "PIP_DISABLE_PIP_VERSION_CHECK": "1", "PATH": "", "HOME": str(self.room)}
+        subprocess.run([python, "-m", "pip", "install", "-q", wheel], check=True, env=environment, stdout=subprocess.DEVNULL)
+        os.remove(wheel)
+        script = "import span_margin as span, sys; print(span.margin(*sys.argv[1:])['RIVER-01'].total)"
+        said = subprocess.check_output([python, "-c", script, str(PARAMS), str(POSITIONS)], env=environment, text=True)
+        self.assertEqual(said, "1331287\n")

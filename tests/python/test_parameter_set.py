@@ -493,6 +493,9 @@ class Written(Case):
             with self.assertRaisesRegex(ValueError, "is not a file"):
                 of_desk(desk()).write(place)
         self.assertEqual(self.names(), ["params.csv"])
+        (self.room / "loop").symlink_to("loop")
+        with self.assertRaisesRegex(ValueError, "is not a file"):
+            of_desk(desk()).write(self.room / "loop")
         with self.assertRaises(FileNotFoundError):
             of_desk(desk()).write(self.room / "missing" / "params.csv")
 

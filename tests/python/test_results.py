@@ -167,6 +167,25 @@ class Lines(Case):
                 self.assertIn(wrong.decode(), str(self.error(span.ProgramError, statement.to_pandas)))
                 self.assertIn("T,C,D1,x", str(self.error(span.ProgramError, statement.to_pandas, "accounts")))
 
+    def test_strict_forms(self) -> None:
+        """A number, a name or a word in another form than the program prints is an error."""
+        good = {
+            "R": "A,D1,CL,1,14,2,3,4,5,6", "T": "A,D1,6,-7,8,9", "HELD": "A,D1,CL,CLZ5,F,202512,-6", "SCAN": "A,D1,CL,1,14,13,0.5",
+            "INTRA": "A,D1,CL,1,A,2.5,3,4", "SHORT": "A,D1,CL,1,2,SUM,3",
+        }
+        wrong = [
+            ("R", "CL,1", text) for text in ("CL,01", "CL,+1", "CL, 1", "CL,1_0", "CL,-1", "CL,1.0", "CL,", "C L,1", "C\x1b,1", "\xc4,1")
+        ] + [("R", ",14,", ",17,"), ("T", "-7", "-0"), ("T", "6,-7", "6,7,-7"), ("HELD", ",F,", ",X,"), ("HELD", "202512", "20251"),
+             ("SCAN", "0.5", "0.50"), ("SCAN", "0.5", "5E-1"), ("SCAN", "0.5", ".5"), ("INTRA", ",A,2", ",C,2"), ("SHORT", "SUM", "sum")]
+        for word, line in good.items():
+            self.assertEqual(_lines.values_of(f"{word},{line}")[0], _lines.FORMS[word])
+        for word, old, new in wrong:
+            line = f"{word},{good[word].replace(old, new)}"
+            with self.subTest(line):
+                self.assertNotEqual(line, f"{word},{good[word]}")
+                self.error(span.ProgramError, _lines.object_of, line)
+                self.assertIsNone(_lines.own_fields_of(line, "A,D1,CL,"))
+
     def test_words_at_once(self) -> None:
         for make, printed in (
             (_results.statement, b"hello\n"),
@@ -367,7 +386,7 @@ class Frames(Case):
     def test_exact_and_text(self) -> None:
         large = 2**63 - 1
         names = ("007", "NA", "1E5", "-", "NULL", "TRUE", "0X1F", "2025-11-14")
-        printed = "".join(f"R,{it},{it},{it},{large},14,0,0,0,0,{-large}\nT,{it},{it},{large}\n" for it in names).encode()
+        printed = "".join(f"R,{it},{it},{it},{large},14,0,0,0,0,{large}\nT,{it},{it},{large}\n" for it in names).encode()
         for kind, column in (("commodities", "scan_risk"), ("accounts", "total")):
             frame = _results.statement(printed, UNKNOWN).to_pandas(kind)
             self.assertEqual((list(frame.account), list(frame.set), str(frame.account.dtype)), (list(names), list(names), "object"))

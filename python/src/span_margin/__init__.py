@@ -11,8 +11,9 @@
 Nothing is computed here: every figure is one that the program printed, and `bytes(statement)` is what it printed. Amounts are whole minor
 units of the currency of the parameter set; `amount.major()` is a Decimal in major units.
 """
+from typing import TYPE_CHECKING, Any
+
 from span_margin._amounts import Amount, ExactAmount
-from span_margin._async_session import AsyncSession
 from span_margin._calls import Span, check, explain, faults, margin, roll, whatif
 from span_margin._errors import (
     CurrencyError,
@@ -61,6 +62,18 @@ from span_margin._results import (
     TriedOrders,
 )
 from span_margin._session import Left, Outcome, Session
+
+if TYPE_CHECKING:
+    from span_margin._async_session import AsyncSession
+else:
+
+    def __getattr__(name: str) -> Any:
+        """AsyncSession, whose module is loaded when it is asked for, since that takes long."""
+        if name != "AsyncSession":
+            raise AttributeError(f"module {__name__!r} has no attribute {name!r}")
+        from span_margin._async_session import AsyncSession
+
+        return AsyncSession
 
 __version__ = "1.3.0"
 

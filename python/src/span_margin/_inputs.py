@@ -165,7 +165,7 @@ class SetFile:
 def replace(path: Union[str, "os.PathLike[str]"], content: bytes) -> None:
     """Writes a file under another name in the same directory, and then renames it."""
     target = os.path.realpath(path)
-    if os.path.exists(target) and not os.path.isfile(target):
+    if os.path.lexists(target) and not os.path.isfile(target):
         raise ValueError(f"{os.fspath(path)} exists, and is not a file")
     draft = os.path.join(os.path.dirname(target), f".span-{secrets.token_hex(8)}")
     try:

@@ -6,10 +6,11 @@ digits, yyyymm. In every line of a statement, explanation or order, `set` is the
 import hashlib
 import json
 import os
+import re
 from dataclasses import dataclass
 from decimal import Decimal
 from functools import lru_cache
-from typing import Any, ClassVar, Dict, List, Mapping, NamedTuple, Optional, Tuple, Type, Union, get_type_hints
+from typing import Any, ClassVar, Dict, List, Mapping, NamedTuple, Optional, Pattern, Tuple, Type, Union, get_type_hints
 
 from span_margin._amounts import UNKNOWN, Amount, ExactAmount, Money
 from span_margin._errors import ProgramError, match_fault
@@ -62,10 +63,13 @@ class Printed:
     def _frame(self, word: str) -> Any:
         """A data frame of the lines of one word."""
         form, lines = FORMS[word], self._lines_of(word)
+        wrong = next((line for line in lines if not _line_form(word).fullmatch(line)), None)
+        if wrong is not None:
+            raise unreadable(text_of(wrong))
         kinds = [kind for _, kind in _classes(word, self._money)]
         try:
             return frame_of_lines(form.columns, kinds, lines, bool(word))
-        except (ValueError, ArithmeticError):  # what only Python reads exactly, or an unreadable line
+        except (ValueError, ArithmeticError):  # what only Python reads exactly
             rows = (values_of(text_of(line), self._money, None if word else "")[1] for line in lines)
             return frame_of_rows(form.columns, kinds, rows)
 
@@ -335,41 +339,108 @@ class SetCounts(OneLine):
     _kinds = {"sets": "OK"}
 
 
+# The forms of fields. A name is any visible text, since it is only shown.
+_NAME = r"([!-+\--~]{1,64})"
+_COUNT = r"(0|[1-9][0-9]{0,39})"
+_WHOLE = r"(0|-?[1-9][0-9]{0,39})"
+_DECIMAL = r"(?!-0(?:,|$))(-?(?:0|[1-9][0-9]{0,39})(?:\.[0-9]{0,39}[1-9])?)"
+_MONTH = r"([0-9]{6})"
+_SIDE = r"([AB])"
+_SCENARIO = r"(1[0-6]|[1-9])"
+_HEAD = (_NAME, _NAME, _NAME)  # account, set, commodity
+Fields = Tuple[Any, ...]  # the texts of the fields of a line; None for fields that it lacks under a set of version 1
+
+
 class Form(NamedTuple):
-    """How the lines of one word become objects: the names and the classes of the fields, and the least number of fields."""
+    """The form of the lines of one word, and how they become objects.
+
+    make                     the class of the objects
+    columns, kinds, fields   the names, the classes and the forms of the fields
+    least                    the least number of fields
+    """
 
     make: Type[Line]
     columns: Tuple[str, ...]
     kinds: Tuple[Type[Any], ...]
+    fields: Tuple[str, ...]
     least: int
 
+    def pattern(self, begin: int = 0) -> str:
+        """The form of the fields from this one on."""
+        more = self.fields[self.least :]
+        return ",".join(self.fields[begin : self.least]) + (f"(?:,{','.join(more)})?" if more else "")
 
-def _form(make: Type[Line]) -> Form:
+
+def _form(make: Type[Line], *fields: str) -> Form:
     hints = get_type_hints(make)
     names = tuple(make.__dataclass_fields__)
     columns, kinds = names, tuple(Amount if hints[name] == Optional[Amount] else hints[name] for name in names)
     if make is Sums:  # each sum has its own column
         columns, kinds = (*names[:-1], *(f"sum_{number}" for number in range(1, 17))), (*kinds[:-1], *[Amount] * 16)
-    return Form(make, columns, kinds, len(columns) - sum(hints[name] == Optional[Amount] for name in names))
+    return Form(make, columns, kinds, fields, len(columns) - sum(hints[name] == Optional[Amount] for name in names))
 
 
 FORMS: Dict[str, Form] = {
-    "R": _form(CommodityMargin),
-    "T": _form(AccountTotal),
-    "HELD": _form(Held),
-    "SUMS": _form(Sums),
-    "SCAN": _form(Scan),
-    "MONTH": _form(Month),
-    "INTRA": _form(Intra),
-    "SPOT": _form(Spot),
-    "INTER": _form(Inter),
-    "CREDIT": _form(Credit),
-    "SHORT": _form(Short),
-    "CHANGE": _form(Change),
-    "ORDER": _form(OrderTotal),
-    "OK": _form(SetCounts),
-    "": _form(Position),  # records of positions have no word
+    "R": _form(CommodityMargin, *_HEAD, _COUNT, _SCENARIO, *[_COUNT] * 5),
+    "T": _form(AccountTotal, _NAME, _NAME, _COUNT, _WHOLE, _COUNT, _COUNT),
+    "HELD": _form(Held, *_HEAD, _NAME, "([FCP])", _MONTH, _WHOLE, _WHOLE),
+    "SUMS": _form(Sums, *_HEAD, *[_WHOLE] * 16),
+    "SCAN": _form(Scan, *_HEAD, _COUNT, _SCENARIO, _SCENARIO, _DECIMAL),
+    "MONTH": _form(Month, *_HEAD, _MONTH, _DECIMAL, _DECIMAL),
+    "INTRA": _form(Intra, *_HEAD, _COUNT, _SIDE, _DECIMAL, _COUNT, _DECIMAL),
+    "SPOT": _form(Spot, *_HEAD, _MONTH, _DECIMAL, _COUNT, _DECIMAL, _COUNT, _DECIMAL),
+    "INTER": _form(Inter, *_HEAD, _COUNT, _SIDE, _DECIMAL, _DECIMAL, _COUNT),
+    "CREDIT": _form(Credit, *_HEAD, _DECIMAL, _DECIMAL, _DECIMAL),
+    "SHORT": _form(Short, *_HEAD, _COUNT, _COUNT, "(SUM|MAX)", _COUNT),
+    "CHANGE": _form(Change, _NAME, *_HEAD, _COUNT, _COUNT, _WHOLE),
+    "ORDER": _form(OrderTotal, _NAME, _NAME, _NAME, _COUNT, _COUNT, _WHOLE, _COUNT, _COUNT, _WHOLE),
+    "OK": _form(SetCounts, _NAME, *[_COUNT] * 6),
+    "": _form(Position, _NAME, _NAME, _WHOLE),  # records of positions have no word
 }
+
+
+@lru_cache(maxsize=None)
+def _fields_form(word: str) -> Pattern[str]:
+    """The form of the fields after a word. (These forms are made when they are needed, since that takes long.)"""
+    return re.compile(FORMS[word].pattern())
+
+
+@lru_cache(maxsize=None)
+def _own_form(word: str) -> Optional[Pattern[str]]:
+    """The form of the fields after account, set and commodity in a line of a commodity."""
+    return re.compile(FORMS[word].pattern(3)) if FORMS[word].columns[2] == "commodity" else None
+
+
+@lru_cache(maxsize=None)
+def _line_form(word: str) -> Pattern[bytes]:
+    """The form of a whole line."""
+    return re.compile((f"{word}," * bool(word) + FORMS[word].pattern()).encode())
+
+
+def fields_of(line: str, word: Optional[str] = None) -> Tuple[str, Fields]:
+    """The word of a line, and the texts of its fields after the word. `word` is "" for a record of positions, which has none.
+
+    Raises ProgramError if the program prints no such line. Each line of the program is read here or in `own_fields_of`.
+    """
+    rest = line
+    if word is None:
+        word, _, rest = line.partition(",")
+        word = word or "no word"
+    found = _fields_form(word).fullmatch(rest) if word in FORMS else None
+    if not found:
+        raise unreadable(line)
+    return word, found.groups()
+
+
+def own_fields_of(line: str, head: str) -> Optional[Tuple[str, Fields]]:
+    """The word of a line of a commodity, and its fields after account, set and commodity, if these are `head`, which has commas.
+
+    None if they are not, or if the program prints no such line. Long explanations are read by this, since it is fast.
+    """
+    word, _, rest = line.partition(",")
+    form = _own_form(word) if word in FORMS else None
+    found = form.fullmatch(rest, len(head)) if form and rest.startswith(head) else None
+    return (word, found.groups()) if found else None
 
 
 @lru_cache(maxsize=None)
@@ -389,18 +460,14 @@ def values_of(line: str, money: Money = UNKNOWN, word: Optional[str] = None) -> 
 
     Raises ProgramError if the program prints no such line.
     """
-    values: List[Any] = line.split(",")
-    if word is None:
-        word = values.pop(0) or "no word"
-    form, count = FORMS.get(word), len(values)
-    if form is None or count not in (form.least, len(form.columns)):
-        raise unreadable(line)
-    try:
-        for at, convert in _converters(word, money):
-            if at < count:
-                values[at] = convert(values[at])
-    except (ValueError, ArithmeticError):
-        raise unreadable(line) from None
+    word, fields = fields_of(line, word)
+    form, values = FORMS[word], list(fields)
+    if values[-1] is None:
+        del values[form.least :]
+    count = len(values)
+    for at, convert in _converters(word, money):
+        if at < count:
+            values[at] = convert(values[at])
     return form, values
 
 

@@ -14,8 +14,9 @@ from span_margin._errors import ProgramError, TimedOut
 
 MAJOR = 1  # the major version of the programs that this package knows
 SESSIONS = (1, 3)  # the first version with `span session`
-# In a checkout, the program that `./dev prove` builds.
-_CHECKOUT = Path(__file__).resolve().parents[3] / "crates" / "span" / "out" / "span"
+_OWN = Path(__file__).resolve().parent / "bin" / "span"  # in a wheel that contains the program
+# In a clone, the program that `./dev prove` builds.
+_CLONE = Path(__file__).resolve().parents[3] / "crates" / "span" / "out" / "span"
 GRACE = 1.0  # how many seconds a process that was killed has to end
 Answer = TypeVar("Answer")
 _versions: Dict[Tuple[str, int, int], Tuple[int, int, int]] = {}
@@ -68,20 +69,23 @@ class Deadline:
 
 
 def find(named: Union[str, "os.PathLike[str]", None] = None) -> str:
-    """The path of the program: `named`, or else what the environment variable SPAN names, or the one in PATH, or the one in the checkout.
+    """The path of the program: `named`, or else the first of what the environment variable SPAN names, the program in the wheel, the one in
+    PATH, and the one in the clone.
 
     Raises ProgramError if there is none.
     """
     where = "the argument program" if named else "SPAN in the environment"
     named = named or os.environ.get("SPAN")
+    if not named and os.access(_OWN, os.X_OK):
+        return str(_OWN)
     found = shutil.which(named or "span")
     if found:
         return os.path.abspath(found)
     if named:
         raise ProgramError(f"{where} is {named}, which is not a program")
-    if os.access(_CHECKOUT, os.X_OK):
-        return str(_CHECKOUT)
-    raise ProgramError("there is no program span: SPAN in the environment does not name it, and it is not in PATH")
+    if os.access(_CLONE, os.X_OK):
+        return str(_CLONE)
+    raise ProgramError("there is no program span: SPAN in the environment does not name it, and it is not in the package or in PATH")
 
 
 def version(program: str, deadline: Deadline = Deadline()) -> Tuple[int, int, int]:
