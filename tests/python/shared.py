@@ -1,14 +1,16 @@
 """Shared code of the tests of the package: the example files, directories, and programs that stand in for span."""
 import dataclasses
 import os
+import random
 import stat
 import tempfile
 import unittest
 from pathlib import Path
-from typing import Any, List, Type, TypeVar, Union
+from typing import Any, Dict, Iterator, List, Tuple, Type, TypeVar, Union
 from unittest import mock
 
 import span_margin as span
+from lib.random_files import Files, joined
 
 EXAMPLES = Path(__file__).resolve().parents[2] / "examples"
 PARAMS, NEXT, VALUE = EXAMPLES / "params.csv", EXAMPLES / "params-next.csv", EXAMPLES / "params-value.csv"
@@ -99,3 +101,26 @@ class SessionCase(Case):
         """A session of a program that opens it and then runs a script."""
         self.use_program(f"echo OK,D20251114,0,0,0,0,0,0; echo done,0; {script}")
         return self.session(**named)
+
+
+def random_sessions(case: SessionCase, seed: int, count: int) -> Iterator[Tuple[random.Random, span.Session, List[str]]]:
+    """Sessions without positions under random parameter sets, with the contracts of each set. The seed chooses the sets."""
+    chance = random.Random(seed)
+    for _ in range(count):
+        files = Files(chance)
+        with case.session(joined(files.params), b"") as desk:
+            yield chance, desk, [record[1] for record in files.params if record[0] == "CONTRACT"]
+
+
+def fill_random(chance: random.Random, desk: span.Session, contracts: List[str], most: int, lots: int) -> Dict[str, int]:
+    """Gives the account A up to `most` contracts, and as many lots in all as `lots`, or one of each. Returns what it holds."""
+    held = chance.sample(contracts, min(len(contracts), chance.randint(1, most)))
+    legs = {contract: chance.choice((-1, 1)) for contract in held}
+    for _ in range(lots - len(held)):
+        contract = chance.choice(held)
+        legs[contract] += 1 if legs[contract] > 0 else -1
+    before = {it.contract: -it.quantity for it in desk.positions() if it.account == "A"}
+    if before:
+        desk.fill("A", before)
+    desk.fill("A", legs)
+    return legs

@@ -44,6 +44,38 @@ class Answers(AsyncCase):
 
         self.run_in(work)
 
+    def test_many_questions(self) -> None:
+        """The methods that ask many questions answer as in a `Session`, next to other calls."""
+        plain = self.session()
+
+        async def work(desk: span.AsyncSession) -> None:
+            shares, close, margin = await asyncio.gather(
+                desk.attribution("RIVER-01"), desk.cheapest_close("RIVER-01", 1000000, most={"HOZ5": 0}), desk.margin("CRACK-02"))
+            self.assertEqual(shares, plain.attribution("RIVER-01"))
+            self.assertEqual((close.legs, close.is_met), (plain.cheapest_close("RIVER-01", 1000000, most={"HOZ5": 0}).legs, True))
+            self.assertEqual(margin, plain.margin("CRACK-02"))
+            with self.assertRaises(span.RequestError):
+                await desk.attribution("NOBODY")
+            with self.assertRaises(span.TimedOut):
+                await desk.attribution("RIVER-01", timeout=0)
+            with self.assertRaises(ValueError):
+                await desk.cheapest_close("RIVER-01", 1, "due")
+
+        self.run_in(work)
+
+    def test_many_questions_are_cancelled(self) -> None:
+        """The thread of a coroutine that is cancelled asks no more, and the session goes on."""
+
+        async def work(desk: span.AsyncSession) -> None:
+            task = asyncio.ensure_future(desk.cheapest_close("CRACK-02", 1, tries=10**9, seconds=10**6, only=["CLZ5"]))
+            await asyncio.sleep(0)
+            task.cancel()
+            with self.assertRaises(asyncio.CancelledError):
+                await task
+            self.assertEqual((await desk.margin("RIVER-01")).total, 1331287)
+
+        self.run_in(work)  # (which waits for the thread)
+
     def test_two_hundred_coroutines(self) -> None:
         plain = self.session()
         answers = {it: plain.margin(it) for it in ACCOUNTS}

@@ -8,11 +8,13 @@ import os
 import re
 import subprocess
 import sys
+from decimal import Decimal
 from typing import Any, Tuple
 
 import span_margin as span
 from span_margin import _streams, report
-from shared import EXAMPLES, PARAMS, POSITIONS, Case
+from span_margin.__main__ import WORDS
+from shared import EXAMPLES, NEXT, PARAMS, POSITIONS, VALUE, Case
 
 STATEMENT, EXPLANATION = EXAMPLES / "statement-broker.csv", EXAMPLES / "explanation-broker.csv"
 
@@ -27,6 +29,10 @@ def command(*words: str, given: bytes = b"", **options: Any) -> Tuple[int, str, 
 def not_done(what: str, verb: str, number: int) -> str:
     """The line about a stream that cannot be read or written."""
     return f"python -m span_margin: the {what} cannot be {verb}: {os.strerror(number)}\n"
+
+
+FILES = (str(PARAMS), str(POSITIONS))
+HELD = ("CLZ5", "CLF6", "CLG6", "CLH6", "MCLF6", "CLF6C62", "CLF6C66", "HOZ5", "HOF6")  # the contracts of RIVER-01
 
 
 class Command(Case):
@@ -94,8 +100,9 @@ class Command(Case):
         """One help lists the words, and each word has its own. All have the same list of exit statuses."""
         status, out, err = command("--help")
         self.assertEqual((status, err), (0, ""))
-        self.assertEqual(re.findall(r"^    (\w+) ", out, re.M), ["table", "json", "csv", "report"])
-        for word, option in (("table", "--major"), ("json", "--only"), ("csv", "--only"), ("report", "--before")):
+        self.assertEqual(re.findall(r"^    ([\w-]+)(?: |$)", out, re.M), list(WORDS))
+        for word, option in (("table", "--major"), ("json", "--only"), ("csv", "--only"), ("report", "--before"), ("attribution", "--seed"),
+                             ("cheapest-close", "--most"), ("compare", "--table")):
             status, text, err = command(word, "--help")
             self.assertEqual((status, err), (0, ""))
             self.assertIn(option, text)
@@ -114,6 +121,56 @@ class Command(Case):
         self.assertEqual(str(self.error(report.Rejected, report.page, b"")), message)
         self.assertEqual(command("report"), (2, "", f"python -m span_margin: {message}\n"))
         self.assertEqual(command("report", "-o", "none/page.html", given=explained)[0], 6)
+
+    def test_attribution(self) -> None:
+        """The words print what the methods return."""
+        with span.Session(VALUE, POSITIONS) as desk:
+            found = desk.attribution("RIVER-01", "due")
+        words = ("attribution", str(VALUE), str(POSITIONS), "RIVER-01", "--of", "due")
+        self.assertEqual(self.printed(*words, given=b""), found.to_csv())
+        self.assertEqual(self.printed(*words, "--table", "commodities", given=b""), found.to_csv("commodities"))
+        self.assertEqual(self.printed(*words, "--json", given=b""), found.to_json() + "\n")
+
+    def test_cheapest_close(self) -> None:
+        with span.Session(*FILES) as desk:
+            found = desk.cheapest_close("RIVER-01", 1000000, cost={**dict.fromkeys(HELD, 1), "HOZ5": Decimal("2.5")}, most={"HOF6": 1})
+        costs = [f"--cost={contract}={'2.5' if contract == 'HOZ5' else 1}" for contract in HELD]
+        words = ("cheapest-close", *FILES, "RIVER-01", "1000000", *costs, "--most", "HOF6=1")
+        self.assertEqual(self.printed(*words, given=b""), found.to_csv())
+        self.assertEqual(self.printed(*words, "--table", "orders", given=b""), found.to_csv("orders"))
+        self.assertEqual(json.loads(self.printed(*words, "--json", given=b"")), json.loads(found.to_json()))
+
+    def test_no_close(self) -> None:
+        """If no order reaches the target, the status is 1, and the best order is still printed."""
+        status, out, err = command("cheapest-close", *FILES, "RIVER-01", "1000", "--only", "HOZ5")
+        self.assertEqual((status, out.split("\n")[1]), (1, "RIVER-01,D20251114,HOZ5,HO,-1,1,1,1"))
+        message = "no order that was found reaches the target; the lowest total is 948295"
+        self.assertEqual(err, f"python -m span_margin: {message}\n")
+
+    def test_compare(self) -> None:
+        before, after = (span.explain(params, POSITIONS) for params in (PARAMS, NEXT))
+        path = self.use_temporary_directory() / "after"
+        after.write(path)
+        words, found = ("compare", str(EXPLANATION), str(path)), span.compare(before, after)
+        for table in ("accounts", "commodities", "positions", "rates", "figures", "sums"):
+            self.assertEqual(self.printed(*words, "--table", table, given=b""), found.to_csv(table))
+        self.assertEqual(self.printed(*words, given=b""), found.to_csv())
+        self.assertEqual(json.loads(self.printed(*words, "--json", given=b"")), json.loads(found.to_json()))
+
+    def test_wrong_questions(self) -> None:
+        """A question that cannot be answered ends with one line on standard error, and prints nothing."""
+        held = ("cheapest-close", *FILES, "RIVER-01")
+        for status, *words in (
+            (2, "attribution", *FILES, "NOBODY"), (2, "attribution", *FILES, "RIVER-01", "--of", "due"), (2, "attribution", *FILES),
+            (2, *held, "1e6"), (2, *held, "1", "--only", "NONE"), (2, *held, "1", "--most", "CLZ5"), (2, *held, "1", "--cost", "CLZ5=1"),
+            (2, *held, "1", "--cost", "CLZ5=NaN"), (2, *held, "1", "--most", "CLZ5=-1"), (2, *held, "1", "--json", "--table", "legs"),
+            (2, *held, "1", "--cost", "CLZ5=1e999999999"), (3, "attribution", *FILES[::-1], "RIVER-01"), (6, "compare", "none", "none"),
+            (2, "compare", str(EXPLANATION), str(STATEMENT)), (2, "compare", str(EXPLANATION), "/dev/null"),
+        ):
+            with self.subTest(words):
+                done = command(*words)
+                self.assertEqual(done[:2], (status, ""))
+                self.assertRegex(done[2], r"\Apython -m span_margin.*\n\Z")
 
     def test_errors_of_span(self) -> None:
         """A word whose call of span fails ends with the status of span, and its line."""

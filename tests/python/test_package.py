@@ -1,4 +1,5 @@
 """The package as it is installed: wheels with the same bytes each time, and pip without a network."""
+import ast
 import email
 import hashlib
 import os
@@ -9,6 +10,7 @@ import sys
 import tarfile
 import unittest
 import zipfile
+from importlib import import_module
 from pathlib import Path
 from typing import Dict, Optional, Tuple
 from unittest import mock
@@ -38,6 +40,27 @@ def build(hook: str, place: Path, settings: Optional[Dict[str, str]] = None, **e
     script = f"import sys; sys.path.insert(0, 'backend'); import span_build; print(span_build.{hook}(sys.argv[1], {settings!r}))"
     words = [sys.executable, "-B", "-c", script, str(place)]
     return subprocess.check_output(words, cwd=PACKAGE, env={**os.environ, **environment}, text=True).strip()
+
+
+class Names(unittest.TestCase):
+    def test_each_name_is_what_type_checkers_see(self) -> None:
+        tree = ast.parse(Path(span.__file__).read_text(encoding="utf-8"))
+        imports = [node for node in ast.walk(tree) if isinstance(node, ast.ImportFrom) and str(node.module).startswith("span_margin.")]
+        seen = {name.name: getattr(import_module(str(node.module)), name.name) for node in imports for name in node.names}
+        self.assertEqual(sorted(seen), sorted(span.__all__))
+        for name, found in seen.items():
+            self.assertIs(getattr(span, name), found)
+        self.assertLessEqual({*span.__all__, "__version__"}, {*dir(span)})
+        self.assertFalse(hasattr(span, "nothing"))
+
+    def test_modules_are_loaded_when_they_are_needed(self) -> None:
+        """A page of an explanation runs no program, and only an AsyncSession needs asyncio."""
+        script = (
+            "import sys; sys.path.insert(0, 'src'); import span_margin.report as report, span_margin as span\n"
+            "assert not {'span_margin._calls', 'span_margin.report._changes'} & {*sys.modules}\n"
+            "span.margin, span.ParameterSet; assert 'asyncio' not in sys.modules; span.AsyncSession; assert 'asyncio' in sys.modules"
+        )
+        subprocess.run([sys.executable, "-B", "-S", "-c", script], cwd=PACKAGE, check=True)
 
 
 class Wheel(Case):

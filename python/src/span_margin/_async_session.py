@@ -2,9 +2,11 @@
 import asyncio
 from functools import partial
 from types import TracebackType
-from typing import Any, Callable, Iterable, List, Literal, Optional, Type, TypeVar, Union, overload
+from typing import Any, Callable, Iterable, List, Literal, Mapping, Optional, Type, TypeVar, Union, overload
 
-from span_margin import _questions
+from span_margin import _attribution, _closing, _questions
+from span_margin._attribution import Attribution
+from span_margin._closing import CheapestClose, Price
 from span_margin._errors import SpanError
 from span_margin._inputs import Source
 from span_margin._lines import AccountTotal, SetCounts
@@ -108,6 +110,31 @@ class AsyncSession(Desk):
     async def positions(self, *, timeout: Optional[float] = None) -> Positions:
         """The positions of all accounts, as `Session.positions`."""
         return await self._ask(_questions.positions(), timeout)
+
+    async def attribution(
+        self, account: str, of: Literal["total", "due"] = "total", *, seed: int = 0, timeout: Optional[float] = None
+    ) -> Attribution:
+        """What each position of an account contributes to its total, or to its due, as `Session.attribution`."""
+        return await self._run(lambda deadline: _attribution.attribution(self, account, of, seed, deadline), timeout)
+
+    async def cheapest_close(
+        self, account: str, target: int, of: Literal["total", "due"] = "total", *, cost: Optional[Mapping[str, Price]] = None,
+        only: Optional[Iterable[str]] = None, most: Optional[Mapping[str, int]] = None, tries: int = _closing.TRIES,
+        seconds: float = _closing.SECONDS, timeout: Optional[float] = None,
+    ) -> CheapestClose:
+        """The order of least cost after which the total of an account, or its due, is at most `target`, as `Session.cheapest_close`."""
+        chosen, limits = (cost, only, most), (tries, seconds)
+        return await self._run(lambda deadline: _closing.cheapest_close(self, account, target, of, chosen, limits, deadline), timeout)
+
+    async def _run(self, work: Callable[[Deadline], Result], timeout: Optional[float]) -> Result:
+        """What a function returns that asks many questions in a thread of its own. If this is cancelled, the thread asks no more."""
+        self._open_channel()
+        deadline = Deadline(self._timeout if timeout is None else timeout)
+        try:
+            return await asyncio.get_running_loop().run_in_executor(None, work, deadline)
+        except asyncio.CancelledError:
+            deadline.stop()
+            raise
 
     async def _ask(self, question: Question[Result], timeout: Union[Deadline, float, None]) -> Result:
         """The answer to a question. Raises its error if it is rejected."""

@@ -1,16 +1,18 @@
 """The calls that run the program once. Files are given by path or by content, and results are objects."""
 import os
 from dataclasses import dataclass
-from typing import Any, Dict, Optional, Union
+from typing import TYPE_CHECKING, Any, Dict, Optional, Union
 
 from span_margin import _program, _results
-from span_margin._async_session import AsyncSession
 from span_margin._errors import error_of_status
 from span_margin._inputs import ORDER, PARAMETER, POSITION, Inputs, SetFile, Source
 from span_margin._lines import SetCounts
 from span_margin._program import Deadline
 from span_margin._results import Explanation, Faults, Roll, Statement, TriedOrders
 from span_margin._session import Session
+
+if TYPE_CHECKING:
+    from span_margin._async_session import AsyncSession
 
 FAULTY = (3, 4)  # the statuses with which `span faults` prints faults
 
@@ -122,8 +124,10 @@ class Span:
         """A `Session` of this program. `timeout` holds for its opening, and for each call that does not say another number of seconds."""
         return Session(params, positions, **self._settings(workers, timeout))
 
-    def async_session(self, params: Source, positions: Source, *, workers: int = 1, timeout: Optional[float] = None) -> AsyncSession:
+    def async_session(self, params: Source, positions: Source, *, workers: int = 1, timeout: Optional[float] = None) -> "AsyncSession":
         """An `AsyncSession` of this program, which is not open yet. `timeout` is as in `session`."""
+        from span_margin._async_session import AsyncSession  # (here, since asyncio takes long to load)
+
         return AsyncSession(params, positions, **self._settings(workers, timeout))
 
     def _settings(self, workers: int, timeout: Optional[float]) -> Dict[str, Any]:

@@ -15,7 +15,7 @@ import tempfile
 import time
 import weakref
 from queue import Empty, SimpleQueue
-from typing import IO, Callable, Dict, List, NamedTuple, Optional, Sequence, Union, cast
+from typing import IO, Callable, Dict, List, NamedTuple, Optional, Sequence, Tuple, Union, cast
 
 from span_margin._amounts import UNKNOWN, Money
 from span_margin._errors import SessionEnded, SpanError, error_of_status
@@ -64,7 +64,8 @@ class Request:
     """Lines for the program with their ends, what their answers must be, and what became of them.
 
     lines, expected    the lines with their ends, and the answer of each
-    used               tells the currency of amounts under the set with an id, if the request is one for a set that is accepted
+    used               tells the currency of amounts under the set with an id, and the content of its file if that is known, if the request
+                       is one for a set that is accepted
     finish             is called when the request needs its files no longer
     wake               is called by the thread of the channel when the request is complete, if `wait` is not used
     answers, refused   the lines of each answer without the last one; and why an answer, by its index, has none
@@ -82,7 +83,7 @@ class Request:
         self,
         lines: Sequence[str],
         expected: Sequence[Expected],
-        used: Optional[Callable[[str], Money]] = None,
+        used: Optional[Callable[[str], Tuple[Money, Optional[bytes]]]] = None,
         finish: Optional[Callable[[], None]] = None,
     ) -> None:
         self.lines, self.expected, self.used, self.finish = lines, expected, used, finish
@@ -213,10 +214,11 @@ class Channel:
 
     def __init__(self, command: Sequence[str], opening: Request) -> None:
         self.set, self.money = "", UNKNOWN
+        self.content: Optional[bytes] = None  # of the parameter file in use, if it is known
         self.end: Optional[End] = None
         self.closing = False  # `close` was called
         self._busy = True  # a request is being answered
-        self._command = command
+        self.command = command
         self._pid = os.getpid()
         self._requests: "SimpleQueue[Optional[Request]]" = SimpleQueue()  # None ends the session
         self._ended: "SimpleQueue[None]" = SimpleQueue()
@@ -291,10 +293,10 @@ class Channel:
         try:
             # (in a process group of its own, so that Ctrl-C in a terminal does not end the session)
             process = self._process = subprocess.Popen(
-                self._command, bufsize=0, stdin=subprocess.PIPE, stdout=subprocess.PIPE, stderr=self._errors, start_new_session=True
+                self.command, bufsize=0, stdin=subprocess.PIPE, stdout=subprocess.PIPE, stderr=self._errors, start_new_session=True
             )
         except OSError as error:
-            return End(error=not_run(self._command[0], error))
+            return End(error=not_run(self.command[0], error))
         # (after the start of the process, which would inherit this) Signals reach only threads whose wait they may interrupt.
         signal.pthread_sigmask(signal.SIG_BLOCK, signal.valid_signals())
         said = ""
@@ -345,7 +347,7 @@ class Channel:
             raise Mismatch(f"the session printed more than its answers: {text_of(printed[begin : begin + 100])!r}")
         if request.used and not request.refused:
             self.set = text_of(request.answers[0]).split(",")[1]
-            self.money = request.used(self.set)
+            self.money, self.content = request.used(self.set)
         request.set, request.money = self.set, self.money
 
     def _refusal(self, request: Request, at: int, printed: bytes, begin: int) -> int:

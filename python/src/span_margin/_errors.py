@@ -181,6 +181,18 @@ class FileChangedError(SpanError):
         self.filename = filename
 
 
+class PositionsChangedError(SpanError):
+    """The positions of an account, or the parameter set, changed during a call that asks several questions. Call again.
+
+    account   the account
+    """
+
+    def __init__(self, account: str) -> None:
+        super().__init__(f"the positions of {account} or the parameter set changed during the call")
+        self.args = (account,)
+        self.account = account
+
+
 class CurrencyError(SpanError, TypeError):
     """Amounts in two currencies were added, subtracted or compared. It is a TypeError."""
 

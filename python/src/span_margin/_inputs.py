@@ -10,7 +10,7 @@ from types import TracebackType
 from typing import Any, Iterable, Iterator, List, Mapping, Optional, Sequence, Sized, SupportsBytes, Tuple, Type, Union
 
 from span_margin._amounts import Money
-from span_margin._errors import FileChangedError, FileError
+from span_margin._errors import LONGEST_FILE, FileChangedError, FileError
 from span_margin._program import Deadline
 
 Row = Union[Sequence[object], Mapping[str, object]]
@@ -133,12 +133,34 @@ def set_record(path: str) -> Optional[Tuple[str, str]]:
     return (found[1], found[2]) if found and len(fields) == 4 else None
 
 
-class SetFile:
-    """A parameter file, and the id and the currency of its SET record before the program read it; None if it is not a regular file."""
+def _version(about: os.stat_result) -> Tuple[int, ...]:
+    """What differs between a file and a file that replaces it, or that was written later."""
+    return about.st_dev, about.st_ino, about.st_size, about.st_mtime_ns
 
-    def __init__(self, path: str, digits: Optional[int], deadline: Deadline) -> None:
+
+def content_of(path: str) -> Optional[Tuple[bytes, Tuple[int, ...]]]:
+    """The content and the version of a regular file that the program accepts by its size, or None. It opens no pipe."""
+    try:
+        if not stat.S_ISREG(os.stat(path).st_mode):
+            return None
+        with open(os.open(path, os.O_RDONLY | os.O_NONBLOCK | os.O_CLOEXEC), "rb") as file:
+            about = os.fstat(file.fileno())
+            is_read = stat.S_ISREG(about.st_mode) and about.st_size <= LONGEST_FILE
+            return (file.read(LONGEST_FILE), _version(about)) if is_read else None
+    except (OSError, ValueError):
+        return None
+
+
+class SetFile:
+    """A parameter file, and the id and the currency of its SET record before the program read it; None if it is not a regular file.
+
+    With `keep`, it has the content of the file, too.
+    """
+
+    def __init__(self, path: str, digits: Optional[int], deadline: Deadline, keep: bool = False) -> None:
         self.path, self._digits, self._deadline = path, digits, deadline
         self._before = deadline.call(set_record, path)
+        self._content = deadline.call(content_of, path) if keep else None
 
     @property
     def set_id(self) -> Optional[str]:
@@ -155,6 +177,13 @@ class SetFile:
             return True
         now = set_record(self.path) or self._before
         return now == self._before and set_id in (None, now[0])
+
+    def content(self) -> Optional[bytes]:
+        """The content that the program read, if it was kept: the file was regular, and is still the same."""
+        try:
+            return self._content[0] if self._content and _version(os.stat(self.path)) == self._content[1] else None
+        except OSError:
+            return None
 
     def check(self, set_id: Optional[str]) -> None:
         """Raises FileChangedError if the file does not have this set any more, or did not have it before."""

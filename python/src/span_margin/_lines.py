@@ -79,6 +79,15 @@ class Printed:
         return [line for line in bytes(self).split(b"\n")[:-1] if line.startswith(front)]
 
 
+class Shown:
+    """A result that notebooks show as HTML."""
+
+    def _repr_html_(self) -> str:
+        from span_margin.report._notebook import html_of  # (which takes long, and only notebooks need)
+
+        return html_of(self)
+
+
 @dataclass(frozen=True)
 class Line:
     """A line, or an object made of lines."""

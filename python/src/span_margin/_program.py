@@ -36,12 +36,16 @@ class Deadline:
     def __init__(self, seconds: Optional[float] = None) -> None:
         if seconds is not None and not seconds >= 0:
             raise ValueError(f"a timeout is a number of seconds, not {seconds!r}")
-        self.seconds = None if seconds is None or seconds > threading.TIMEOUT_MAX else seconds
+        self.seconds: Optional[float] = None if seconds is None or seconds > threading.TIMEOUT_MAX else seconds
         self._ends = None if self.seconds is None else time.monotonic() + self.seconds
 
     def left(self) -> Optional[float]:
         """How many seconds are left; None if there is no end."""
         return None if self._ends is None else max(self._ends - time.monotonic(), 0)
+
+    def stop(self) -> None:
+        """Ends the time of a call that is not wanted any more. It is in another thread, which may wait for an answer before it notices."""
+        self.seconds, self._ends = 0, time.monotonic()
 
     def passed(self) -> TimedOut:
         """The error of a call that took longer."""

@@ -1,7 +1,7 @@
 """The requests of a session: the line of each, the answer that it must have, and the object that the answer becomes."""
 import os
 from operator import index
-from typing import Callable, Generic, Iterable, Iterator, List, Mapping, Optional, Tuple, TypeVar, Union
+from typing import Callable, Generic, Iterable, Iterator, List, Mapping, Optional, Sequence, Tuple, TypeVar, Union
 
 from span_margin import _results
 from span_margin._amounts import UNKNOWN, Money
@@ -142,6 +142,25 @@ def filled(account: str, legs: Legs) -> Question[AccountTotal]:
     return One(request, lambda it: _results.account_total(it.answers[0], it.money), changes=True)
 
 
+def walked(account: str, blocks: Iterable[Sequence[Tuple[str, int]]]) -> Question[TriedOrders]:
+    """Fills the blocks of legs, one after the other, and tells before each fill what each beginning of the block would do."""
+    lines, expected = [], []
+    for block in blocks:
+        pairs = _pairs(dict(block))
+        asked = [_try(account, dict(block[:count])) for count in range(1, len(block) + 1)]
+        asked.append((_line("FILL", account, *pairs), Expected(b"T" + _names(account))))
+        lines += [line for line, _ in asked]
+        expected += [answer for _, answer in asked]
+
+    def read(request: Request) -> Union[TriedOrders, SpanError]:
+        for at, what in request.refused.items():
+            return error_of_request(what, request.lines[at][:-1])
+        tried = [answer for line, answer in zip(lines, request.answers) if line.startswith("TRY")]
+        return TriedOrders(b"".join(tried), request.money, request.set)
+
+    return Question(Request(lines, expected), read)
+
+
 # --- Parameter sets ---
 
 
@@ -157,7 +176,7 @@ def used(params: Source, digits: Optional[int], deadline: Deadline) -> Question[
         path = inputs.file(params, PARAMETER, "params.csv")
         # The working directory may have changed since the session was started.
         whole = path if os.path.isabs(path) else os.path.join(os.getcwd(), path)
-        file = SetFile(whole if _fits(whole) else inputs.copy(path, "params.csv"), digits, deadline)
+        file = SetFile(whole if _fits(whole) else inputs.copy(path, "params.csv"), digits, deadline, keep=True)
         return One(*_of_set(f"SET,{file.path}\n", file, inputs), changes=True)
     except BaseException:
         inputs.close()
@@ -168,18 +187,18 @@ def _of_set(line: str, file: SetFile, inputs: Inputs) -> Tuple[Request, Callable
     """A request that makes the session read a parameter file, and how its answer is read."""
     replaced: List[str] = []  # the id of the set that the session read, if the file has another one
 
-    def money(set_id: str) -> Money:
+    def used(set_id: str) -> Tuple[Money, Optional[bytes]]:
         if file.has_still(set_id):
-            return file.money
+            return file.money, file.content()
         replaced.append(set_id)
-        return UNKNOWN
+        return UNKNOWN, None
 
     def read(request: Request) -> SetCounts:
         if replaced:
             raise FileChangedError(file.path)
         return _results.set_counts(request.answers[0])
 
-    return Request([line], [Expected(b"OK,")], money, inputs.close), read
+    return Request([line], [Expected(b"OK,")], used, inputs.close), read
 
 
 # --- Lines ---

@@ -25,6 +25,7 @@ from span_margin._lines import (
     Scan,
     SetCounts,
     Short,
+    Shown,
     Spot,
     Sums,
     fault_of,
@@ -209,7 +210,7 @@ def _with_fields_of(make: Type[Line]) -> Callable[[Type[Kind]], Type[Kind]]:
 
 
 @_with_fields_of(AccountTotal)
-class AccountMargin(Whole[CommodityMargin], AccountTotal):
+class AccountMargin(Whole[CommodityMargin], AccountTotal, Shown):
     """The margin of an account: its total, and its requirement in each commodity. `margin["CL"]` is the requirement in CL."""
 
     _key = "commodity"
@@ -225,7 +226,7 @@ class AccountMargin(Whole[CommodityMargin], AccountTotal):
         return self._items
 
 
-class Statement(OfSet[AccountMargin]):
+class Statement(OfSet[AccountMargin], Shown):
     """The margins of accounts. `statement["RIVER-01"]` is one of them."""
 
     _key = "_name"
@@ -299,7 +300,7 @@ class CommodityExplanation(Line):
 
 
 @_with_fields_of(AccountTotal)
-class AccountExplanation(Whole[CommodityExplanation], AccountTotal):
+class AccountExplanation(Whole[CommodityExplanation], AccountTotal, Shown):
     """The reasons for the margin of an account. `explanation["CL"]` has the reasons in CL."""
 
     _key = "commodity"
@@ -329,7 +330,7 @@ class AccountExplanation(Whole[CommodityExplanation], AccountTotal):
         return AccountMargin(b"\n".join(lines), self._money)
 
 
-class Explanation(OfSet[AccountExplanation]):
+class Explanation(OfSet[AccountExplanation], Shown):
     """The reasons for the margins of accounts. `explanation["RIVER-01"]` has the reasons of one account."""
 
     _key = "_name"

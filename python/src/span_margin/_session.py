@@ -1,9 +1,12 @@
 """Sessions: one process of the program that keeps a parameter set and all positions, and answers requests about them."""
 import os
+from collections import deque
 from types import TracebackType
-from typing import Any, Iterable, List, Literal, NamedTuple, NoReturn, Optional, Tuple, Type, TypeVar, Union, overload
+from typing import Any, Iterable, Iterator, List, Literal, Mapping, NamedTuple, NoReturn, Optional, Tuple, Type, TypeVar, Union, overload
 
-from span_margin import _program, _questions
+from span_margin import _attribution, _closing, _program, _questions
+from span_margin._attribution import Attribution
+from span_margin._closing import CheapestClose, Price
 from span_margin._channel import SLICE, Channel
 from span_margin._errors import SessionEnded, SpanError, TimedOut
 from span_margin._inputs import PARAMETER, POSITION, Inputs, SetFile, Source
@@ -88,7 +91,7 @@ class Desk:
             files = [inputs.file(params, PARAMETER, "params.csv"), inputs.file(positions, POSITION, "positions.csv")]
             words = ["session", f"--workers={workers}", "--", *files]
             command = _program.command(*words, least=_program.SESSIONS, program=program, deadline=deadline)
-            self._opening = _questions.opened(SetFile(files[0], self._digits, deadline), inputs)
+            self._opening = _questions.opened(SetFile(files[0], self._digits, deadline, keep=True), inputs)
             self._channel = Channel(command, self._opening.request)
             return self._channel, self._opening
         except BaseException:
@@ -154,6 +157,63 @@ class Desk:
         error = TimedOut(f"the session did not answer within {deadline.seconds:g} seconds", left.request, left.sent)
         error._left = left
         return error
+
+    # --- Questions, in a thread that waits for the answers ---
+
+    def _empty(self, deadline: Deadline) -> "Session":
+        """A session without positions, with the same program and parameter set."""
+        channel = self._open_channel()
+        if channel.content is None:
+            raise ValueError("more than 64 contracts need the parameter file again, which is a pipe, or was replaced while span read it")
+        return Session(channel.content, b"", timeout=deadline.left(), program=channel.command[0], digits=self._digits)
+
+    def _wait_for(self, question: Question[Result], timeout: Union[Deadline, float, None]) -> Result:
+        """The answer to a question. Raises its error if it is rejected.
+
+        All from the sending to the return is in one `try`: whatever interrupts it, the request is withdrawn, or kept in `left`. An
+        interrupt that comes when this has returned is like one after the call: the caller does not get what the call returned.
+        """
+        told: Union[Result, SpanError, None] = None
+        try:
+            deadline, request = self._deadline(timeout), question.request
+            (self._channel or self._open_channel()).put(request)
+            if not request.wait(deadline):
+                told = self._timed_out(question, deadline)
+                raise told
+            told = question.told()
+            if isinstance(told, SpanError):
+                raise told
+            return told
+        except BaseException as error:
+            if error is not told:
+                self._leave(question)
+            raise
+
+    def _wait_for_each(self, questions: Iterable[Question[Result]], deadline: Deadline) -> Iterator[Result]:
+        """The answers to questions whose answers may be dropped. The program works on the next one while the caller uses an answer."""
+        channel, asked = self._open_channel(), deque[Question[Result]]()
+        try:
+            for question in questions:
+                asked.append(question)
+                channel.put(question.request)
+                if len(asked) > 1:
+                    yield self._answer(asked[0], deadline)
+                    asked.popleft()
+            while asked:
+                yield self._answer(asked[0], deadline)
+                asked.popleft()
+        finally:
+            for question in asked:
+                question.request.leave(drop=True)
+
+    def _answer(self, question: Question[Result], deadline: Deadline) -> Result:
+        """The answer to a question that was sent. Raises its error if it is rejected."""
+        if not question.request.wait(deadline):
+            raise self._timed_out(question, deadline)
+        told = question.told()
+        if isinstance(told, SpanError):
+            raise told
+        return told
 
 
 class Session(Desk):
@@ -250,6 +310,44 @@ class Session(Desk):
             return self._ask(_questions.each_tried(orders), timeout)
         return self._ask(_questions.all_tried(orders), timeout)
 
+    def attribution(
+        self, account: str, of: Literal["total", "due"] = "total", *, seed: int = 0, timeout: Optional[float] = None
+    ) -> Attribution:
+        """What each position of an account contributes to its total, or to its due, in whole minor units that add up to it.
+
+        It evaluates orders that close positions, and changes nothing. `seed` chooses the random orders of an account with more than 12
+        contracts. For more than 64 contracts, it opens a session of its own.
+
+        Raises RequestError E1 if there is no such account, PositionsChangedError if another thread changes its positions or the parameter
+        set meanwhile, and ValueError if the set has no option values, so that there is no due, or if more than 64 contracts need the
+        parameter file again, and it was a pipe or has been replaced.
+        """
+        return _attribution.attribution(self, account, of, seed, self._deadline(timeout))
+
+    def cheapest_close(
+        self, account: str, target: int, of: Literal["total", "due"] = "total", *, cost: Optional[Mapping[str, Price]] = None,
+        only: Optional[Iterable[str]] = None, most: Optional[Mapping[str, int]] = None, tries: int = _closing.TRIES,
+        seconds: float = _closing.SECONDS, timeout: Optional[float] = None,
+    ) -> CheapestClose:
+        """The order of least cost after which the total of an account, or its due, is at most `target`. It changes nothing.
+
+        A leg closes a position in whole or in part. Legs open no position, and are at most 64. If an account holds no more contracts, and
+        `only` and `most` are not given, there always is such an order, since closing everything leaves 0.
+
+        cost    what closing a lot of each contract costs, as int or Decimal; by default the cost is the number of lots
+        only    the contracts that may be closed; by default all
+        most    how many lots of a contract may be closed at most; by default the whole position
+
+        Up to 5000 orders are all evaluated. If there are more, a search evaluates at most about `tries` orders in at most about `seconds`,
+        and the result may not be the cheapest; `is_optimal` tells. No result can be improved by taking back a lot, or by closing a lot of
+        a cheaper contract in its place.
+
+        Raises RequestError E1 if there is no such account, PositionsChangedError if another thread changes its positions or the parameter
+        set meanwhile, ValueError if there is no due, or if prices, `only` or `most` are wrong, and TypeError for a price that is a float.
+        """
+        limits = (tries, seconds)
+        return _closing.cheapest_close(self, account, target, of, (cost, only, most), limits, self._deadline(timeout))
+
     def fill(self, account: str, legs: Legs, *, timeout: Optional[float] = None) -> AccountTotal:
         """Adds quantities to the net positions of an account, which may be a new one. Returns its total afterwards."""
         return self._ask(_questions.filled(account, legs), timeout)
@@ -266,24 +364,4 @@ class Session(Desk):
         """The positions of all accounts. An account that holds nothing has one record of quantity 0."""
         return self._ask(_questions.positions(), timeout)
 
-    def _ask(self, question: Question[Result], timeout: Union[Deadline, float, None]) -> Result:
-        """The answer to a question. Raises its error if it is rejected.
-
-        All from the sending to the return is in one `try`: whatever interrupts it, the request is withdrawn, or kept in `left`. An
-        interrupt that comes when this has returned is like one after the call: the caller does not get what the call returned.
-        """
-        told: Union[Result, SpanError, None] = None
-        try:
-            deadline, request = self._deadline(timeout), question.request
-            (self._channel or self._open_channel()).put(request)
-            if not request.wait(deadline):
-                told = self._timed_out(question, deadline)
-                raise told
-            told = question.told()
-            if isinstance(told, SpanError):
-                raise told
-            return told
-        except BaseException as error:
-            if error is not told:
-                self._leave(question)
-            raise
+    _ask = Desk._wait_for

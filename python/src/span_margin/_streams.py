@@ -12,10 +12,14 @@ from typing import Any, Callable, List, NoReturn, Optional, TextIO
 from span_margin._errors import SpanError
 from span_margin._inputs import replace
 
-REJECTED, NO_FILE = 2, 6  # exit statuses, the same as in span
+NOT_FOUND, REJECTED, NO_FILE = 1, 2, 6  # exit statuses; those from 2 on are the same as in span
 STATUSES = """exit status:
   0  success
+  1  cheapest-close: no order that was found reaches the target
   2  usage error or rejected input
+  3  span rejects the parameter file
+  4  span rejects the position file
+  5  span ran out of memory
   6  a file or stream could not be read or written
 """
 PART = 1 << 20  # bytes of standard input that are read at once

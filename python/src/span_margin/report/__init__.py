@@ -11,7 +11,7 @@ set) and the checksums of the input. Otherwise the same input gives the same byt
 
 Input that is not an explanation, is cut off, or has an R or T line that does not follow from the lines before it, is rejected.
 """
-from span_margin.report._command import ABOUT, add_options, main, page, run
-from span_margin.report._explanation import Rejected
+from span_margin.report._command import ABOUT, add_options, checked, main, page, run
+from span_margin.report._explanation import EARLIER, Rejected
 
-__all__ = ["ABOUT", "Rejected", "add_options", "main", "page", "run"]
+__all__ = ["ABOUT", "EARLIER", "Rejected", "add_options", "checked", "main", "page", "run"]

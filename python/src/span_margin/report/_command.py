@@ -8,17 +8,15 @@ from typing import List, Optional, SupportsBytes, Tuple, Union
 
 from span_margin import __version__
 from span_margin._streams import REJECTED, Arguments, Ended, finish, printable, read_file, read_input, write_file, write_output
-from span_margin.report._changes import page_of_change
 from span_margin.report._checks import ParameterSet, check_figures, read_params
 from span_margin.report._document import Heading
-from span_margin.report._explanation import Explanation, Rejected, read_explanation
+from span_margin.report._explanation import EARLIER, Explanation, Rejected, read_explanation
 from span_margin.report._markup import Unit
 from span_margin.report._orders import read_orders
 from span_margin.report._page import page_of_explanation
-from span_margin.report._pairs import compare
+from span_margin.report._shares import Attributions, bytes_of, read_attributions
 
 SHOWN = 100  # how many accounts have details, and how many orders are listed, by default
-EARLIER = "earlier explanation"  # the name in messages for the file of --before
 Printed = Union[bytes, SupportsBytes]  # what span printed: bytes, or a result such as an Explanation
 ABOUT = "make one HTML page of what span explain prints"
 
@@ -36,9 +34,17 @@ def unit_of(name: str, major: Optional[int], set_id: str, params: Optional[Param
     return Unit(shown, major or 0)
 
 
+def checked(data: bytes, what: str, params: Optional[ParameterSet] = None) -> Explanation:
+    """An explanation whose lines and figures agree. `what` is its name in messages. Raises Rejected if they do not agree."""
+    found = read_explanation(data, what)
+    check_figures(found, what, params)
+    return found
+
+
 def page(
     explanation: Printed, *, before: Optional[Printed] = None, orders: Optional[Printed] = None, params: Optional[bytes] = None,
     major: Optional[int] = None, unit: str = "", date: str = "", title: str = "", top: int = SHOWN,
+    attributions: Optional[Attributions] = None,
 ) -> str:
     """The page of an explanation; with `before`, an earlier one, the page of what changed.
 
@@ -47,6 +53,7 @@ def page(
     major   how many digits the minor unit has: amounts are in major units; by default they are in minor units
     unit, date, title    texts at the top of the page
     top     how many accounts have details, and how many orders are listed
+    attributions   of accounts of the explanation, or the lines of their JSON texts: the details show the shares of positions
 
     Raises Rejected if the input does not agree.
     """
@@ -55,22 +62,30 @@ def page(
 
     def read(printed: Printed, what: str) -> Explanation:
         inputs.append((what, bytes(printed)))
-        found = read_explanation(inputs[-1][1], what)
-        check_figures(found, what, found_params)
-        return found
+        return checked(inputs[-1][1], what, found_params)
 
     after = read(explanation, "explanation")
     chosen = unit_of(unit, major, after.set_id, found_params)
     if before is not None:
-        pair = compare(read(before, EARLIER), after)
-        sets = f"{pair.before.set_id} to {after.set_id}"
-        return page_of_change(pair, top, Heading(title or f"Margin from {sets}", sets, date, chosen, tuple(inputs)))
+        if attributions is not None:
+            raise Rejected("a page with an earlier explanation shows no attributions")
+        from span_margin import _results as results  # (here, since other pages need none of it)
+        from span_margin._compare import compare
+        from span_margin.report._changes import page_of_change
+
+        sets = f"{read(before, EARLIER).set_id} to {after.set_id}"
+        both = compare(*(results.Explanation(printed) for _, printed in reversed(inputs)))
+        return page_of_change(both, top, Heading(title or f"Margin from {sets}", sets, date, chosen, tuple(inputs)))
     listed = None
     if orders is not None:
         inputs.append(("file of orders", bytes(orders)))
         listed = read_orders(inputs[-1][1], after)
+    shares = None
+    if attributions is not None:
+        inputs.append(("file of attributions", bytes_of(attributions)))
+        shares = read_attributions(inputs[-1][1], after)
     heading = Heading(title or f"Margin under {after.set_id}", after.set_id, date, chosen, tuple(inputs))
-    return page_of_explanation(after, listed, top, heading)
+    return page_of_explanation(after, listed, top, heading, shares)
 
 
 # --- The command ---
@@ -99,6 +114,9 @@ def add_options(parser: Arguments) -> None:
     option("--title", type=printable, default="", metavar="TEXT", help="the heading of the page")
     option("--top", type=number_of_accounts, default=SHOWN, metavar="N",
            help=f"how many accounts have details, and how many orders are listed (default: {SHOWN})")
+    option("--attribution", metavar="FILE",
+           help="what python3 -m span_margin attribution --json printed for accounts of the explanation; their details show the shares of "
+                "positions")
     more = parser.add_mutually_exclusive_group().add_argument
     more("--orders", metavar="FILE", help="what span whatif printed for the same files; the page gets a table of orders")
     more("--before", metavar="FILE", help="an earlier explanation; the page shows what changed since then, and why")
@@ -115,9 +133,10 @@ def run(chosen: argparse.Namespace) -> None:
     params = file(chosen.params, "parameter set")
     explanation = read_input("explanation")
     before, orders = file(chosen.before, EARLIER), file(chosen.orders, "file of orders")
+    attributions = file(chosen.attribution, "file of attributions")
     words = {name: getattr(chosen, name) for name in ("major", "unit", "date", "title", "top")}
     try:
-        made = page(explanation, before=before, orders=orders, params=params, **words)
+        made = page(explanation, before=before, orders=orders, params=params, attributions=attributions, **words)
     except Rejected as rejected:
         raise Ended(REJECTED, str(rejected)) from None
     write_file(chosen.output, "page", made.encode("utf-8"))

@@ -3,13 +3,15 @@ from __future__ import annotations
 
 import itertools
 from functools import lru_cache
-from typing import Dict, Iterable, List, Sequence, Tuple
+from typing import Dict, Iterable, List, Optional, Sequence, Tuple
 
+from span_margin._attribution import Attribution
 from span_margin.report._explanation import TYPES, Account, Commodity, Held, Row, Total
 from span_margin.report._markup import (
     Scale, Unit, anchor, bars, cell, cells, facts, figure, heads, link, part, table, text,
 )
 from span_margin.report._scenarios import MOVE_SUMS, MOVES, power_of, scenario_of, scenario_picture
+from span_margin.report._shares import contributions, shared_holdings
 
 MANY_HELD = 24  # how many holdings of a commodity fit in one column
 
@@ -191,18 +193,21 @@ def two_columns(left: Iterable[str], right: Iterable[str]) -> str:
     return f'<div class="two"><div>{"".join(left)}</div><div>{"".join(right)}</div></div>'
 
 
-def commodity_part(account: Account, commodity: Commodity, partners: Partners, unit: Unit) -> str:
+def commodity_part(account: Account, commodity: Commodity, partners: Partners, unit: Unit, shares: Optional[Attribution]) -> str:
     """All parts of a commodity in two columns. Many holdings are below these, half of them in each column."""
     held, below = commodity.held, ""
+
+    def listed(title: str, part_of: Sequence[Held]) -> str:
+        return holdings(title, part_of, unit) if shares is None else shared_holdings(title, part_of, shares, unit)
+
     left = [waterfall(commodity, unit), months(commodity), spreads(commodity, unit), delivery(commodity, unit),
             credit(account, commodity, partners, unit), short_options(commodity, unit)]
     right = [scenarios(commodity, unit)]
     if len(held) > MANY_HELD:
         half = (len(held) + 1) // 2
-        below = two_columns(
-            [holdings("Holdings", held[:half], unit)], [holdings("Holdings, the second half", held[half:], unit)])
+        below = two_columns([listed("Holdings", held[:half])], [listed("Holdings, the second half", held[half:])])
     else:
-        right.append(holdings("Holdings", held, unit))
+        right.append(listed("Holdings", held))
     at = anchor(account.name, commodity.name)
     return (
         f'<article id="{at}"><h3><small>{text(account.name)}</small> <a href="#{at}">{text(commodity.name)}</a> <small>requirement</small> '
@@ -220,14 +225,11 @@ def row_figures(row: Row, unit: Unit) -> List[str]:
     return [digits if name == "active" else unit.amount(digits) for name, digits in zip(Row._fields, row)]
 
 
-def statement(account: Account, unit: Unit) -> str:
-    """The R lines of an account as a table."""
-    rows = (
-        f'<tr><th scope="row">{link(each.name, anchor(account.name, each.name))}</th>{cells(row_figures(each.row, unit), FIGURES)}</tr>'
-        for each in account.commodities
-    )
+def statement(lines: Iterable[Tuple[str, Row]], total: str, unit: Unit) -> str:
+    """R lines as a table: the markup of the name of each commodity, and its figures."""
+    rows = (f'<tr><th scope="row">{name}</th>{cells(row_figures(row, unit), FIGURES)}</tr>' for name, row in lines)
     head = heads("Commodity", *(f">{name}" for name in FIGURES))
-    foot = f'<tr><th scope="row" colspan="7">Total</th>{cell(unit.amount(account.total.total))}</tr>'
+    foot = f'<tr><th scope="row" colspan="7">Total</th>{cell(unit.amount(total))}</tr>'
     return table("statement folds", head, rows, foot)
 
 
@@ -239,10 +241,14 @@ def totals(total: Total, unit: Unit) -> List[str]:
     return unit.amounts(digits for digits in total if digits is not None)
 
 
-def account_part(account: Account, unit: Unit) -> str:
+def account_part(account: Account, unit: Unit, shares: Optional[Attribution] = None) -> str:
+    """The details of an account, with the shares of its positions if there is an attribution."""
     partners = partners_of(account)
-    body = "".join(commodity_part(account, commodity, partners, unit) for commodity in account.commodities)
-    held = statement(account, unit) if account.commodities else '<p class="none">Nothing is held.</p>'
+    body = "".join(commodity_part(account, commodity, partners, unit, shares) for commodity in account.commodities)
+    if shares is not None and shares.shares:
+        body = contributions(shares, unit) + body
+    lines = ((link(each.name, anchor(account.name, each.name)), each.row) for each in account.commodities)
+    held = statement(lines, account.total.total, unit) if account.commodities else '<p class="none">Nothing is held.</p>'
     at, said = anchor(account.name), facts(zip(TOTALS, map(figure, totals(account.total, unit))))
     return (
         f'<section class="account{"" if body else " empty"}" id="{at}"><header><h2><a href="#{at}">{text(account.name)}</a></h2>'

@@ -244,11 +244,11 @@ class Reader:
         raise Rejected(f"line {number} of the {self.what} {text}")
 
     def take(self, number: int, line: str) -> None:
-        own = own_fields_of(line, self.head) if self.commodity is not None else None
-        if own is not None and self.commodity is not None:  # a line of the same commodity as the line before it, as most lines are
-            self.take_word(number, own[0])
-            self.take_reason(number, own[0], self.commodity, own[1])
-            return
+        if self.commodity is not None:
+            own = own_fields_of(line, self.head)
+            if own:  # a line of the same commodity as the line before it, as most lines are
+                self.take_word(number, own[0])
+                return self.take_reason(number, own[0], self.commodity, own[1])
         word, fields = fields_at(number, line, FOLLOWS, self.what)
         self.take_word(number, word)
         self.take_set(number, fields[1])

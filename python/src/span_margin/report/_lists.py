@@ -4,13 +4,12 @@ from __future__ import annotations
 import csv
 import io
 import re
-from decimal import Decimal
-from typing import Dict, FrozenSet, Iterable, List, Sequence, Tuple, Union
+from typing import Dict, FrozenSet, Iterable, List, Sequence, Tuple
 
 from span_margin.report._details import TOTALS, totals
 from span_margin.report._explanation import PARTS, Account, Commodity, Explanation, parts_of
 from span_margin.report._markup import (
-    Scale, Unit, anchor, bars, cell, cells, heads, layer, link, share_cell, table, text, widths,
+    Scale, Unit, anchor, bars, cell, cells, effect, heads, layer, link, share_cell, table, text, widths,
 )
 from span_margin.report._orders import Order
 
@@ -132,10 +131,6 @@ def details_of(accounts: int, top: int, by: str) -> str:
 
 
 # --- Orders ---
-
-def effect(change: Union[int, Decimal]) -> str:
-    return "frees" if change < 0 else "costs" if change else "same"
-
 
 CHANGES = ("before", "after", "change")
 DUES = ("due before", "due after", "due change")

@@ -2,9 +2,10 @@
 from __future__ import annotations
 
 from dataclasses import dataclass
+from decimal import Decimal
 from functools import cached_property, lru_cache
 from html import escape
-from typing import Callable, Iterable, List, Sequence, Tuple
+from typing import Callable, Iterable, List, Sequence, Tuple, Union
 from urllib.parse import quote
 
 CACHED = 1 << 16  # names whose markup is kept, since most of them appear again
@@ -165,6 +166,16 @@ class Scale:
 
 def bars(*parts: str) -> str:
     return f'<td class="bars"><span class="bar">{"".join(parts)}</span></td>'
+
+
+def level(scale: Scale, amount: int) -> str:
+    """A line from the row above to the beginning of the bar of a row."""
+    return f'<i class="level" style="left:{scale.at(float(amount)):.2f}%"></i>'
+
+
+def effect(change: Union[int, Decimal]) -> str:
+    """What an order with this change does."""
+    return "frees" if change < 0 else "costs" if change else "same"
 
 
 def layer(amount: int, whole: int, height: str) -> str:

@@ -1,10 +1,11 @@
 """The page of an explanation."""
 from __future__ import annotations
 
-from typing import List, Optional, Sequence, Tuple
+from typing import List, Mapping, Optional, Sequence, Tuple
 
+from span_margin._attribution import Attribution
 from span_margin.report._details import account_part
-from span_margin.report._document import Heading, document, top_part
+from span_margin.report._document import Heading, data, document, top_part
 from span_margin.report._explanation import Account, Explanation
 from span_margin.report._lists import accounts_part, commodities_part, orders_part
 from span_margin.report._markup import Unit, anchor, figure, link, percent, text
@@ -32,7 +33,11 @@ def account_facts(explanation: Explanation, ranked: Sequence[Account], unit: Uni
     ]
 
 
-def page_of_explanation(explanation: Explanation, orders: Optional[Sequence[Order]], top: int, heading: Heading) -> str:
+def page_of_explanation(
+    explanation: Explanation, orders: Optional[Sequence[Order]], top: int, heading: Heading,
+    attributions: Optional[Mapping[str, Attribution]] = None,
+) -> str:
+    """The page of an explanation, with orders and with attributions by account if there are any."""
     ranked, unit = explanation.ranked(), heading.unit
     shown = ranked[:top]
     parts = [axis()]
@@ -41,7 +46,8 @@ def page_of_explanation(explanation: Explanation, orders: Optional[Sequence[Orde
     parts.append(accounts_part(explanation, ranked, top, unit))
     if orders is not None:
         parts.append(orders_part(explanation, orders, top, frozenset(account.name for account in shown), unit))
-    parts += [account_part(account, unit) for account in shown]
+    shares = attributions or {}
+    parts += [account_part(account, unit, shares.get(account.name)) for account in shown]
     facts_of = account_facts(explanation, ranked, unit)
     top_of_page = top_part(heading, "Margin, with the reasons for it", facts_of)
-    return document(heading, top_of_page, parts, FOOT.format(unit=text(unit.name)))
+    return document(heading, top_of_page, parts, FOOT.format(unit=text(unit.name)), data("shares.css") if shares else "")
