@@ -1,6 +1,6 @@
 -- The terms of contracts have the fields of the contracts' records.
-use Rattle.std.proofs.Common.{◌≡◌, ℕ, suc, zero, ◌<◌, ◌*◌, ◌≤◌, pos, nat_abs, List, [], ◌∷◌}
-use Rattle.std.proofs.Common.{length, map, get_or, refl, ap, ◌∙◌, arith}
+use Rattle.std.proofs.Common.{◌≡◌, ℕ, ℤ, suc, zero, ◌<◌, ◌*◌, ◌≤◌, pos, nat_abs, List, [], ◌∷◌}
+use Rattle.std.proofs.Common.{length, map, get_or, refl, sym, ap, ◌∙◌, subst, arith}
 use Rattle.std.specs.Prelude.{◌*ℤ◌, All, IfSome, option_map, slice_get, unwrap_or}
 use Rattle.std.proofs.Math.Nat.{mul-le-mul}
 use Rattle.std.proofs.lemmas.Int.{unsigned_abs-mul}

@@ -2,7 +2,7 @@
 pub mod ByKind
 pub mod Gathered
 pub mod Kept
-pub mod LegIndex
+pub mod Legs
 pub mod Limits
 pub mod NamePlaces
 pub mod Orders
@@ -10,3 +10,4 @@ pub mod Positions
 pub mod Runs
 pub mod Samples
 pub mod Terms
+pub mod Tiers

@@ -7,6 +7,7 @@ ghost use Rattle.spread_stage.specs.Deltas.{units_at};
 ghost use Rattle.spread_stage.specs.Months.{Shrinks, total_size};
 
 use crate::months::{MonthUnits, Months};
+use crate::open_months::{may_have_units, open_sides};
 use crate::tiers::{TierState, at_rate};
 use span_money::amounts::{Money, Units};
 use span_money::division::ceil_div;
@@ -17,6 +18,10 @@ use span_tables::records::Spot;
 const WHOLE_SPREAD: u128 = 10_000;
 // One delta in units of 10^-8, which is also one minor unit in the exact sum of units times rates.
 const WHOLE_DELTA: u128 = 100_000_000;
+
+// The largest number of spot months that are looked up one by one. For so few, computing the open sides of the months
+// takes longer.
+const FEW_SPOT_MONTHS: usize = 8;
 
 /// The largest intracommodity charge, in minor units: as many 10^-4 spreads as there are units, at the largest rate.
 pub const MAX_INTRA_CHARGE: u128 = MAX_UNITS as u128 * MAX_RATE as u128 / WHOLE_SPREAD;
@@ -102,6 +107,27 @@ fn spot_charge(months: &[MonthUnits], rests: &[MonthUnits], spot: &Spot) -> u128
     at_rate(used, spot.spread_rate) + at_rate(left, spot.outright_rate)
 }
 
+// Returns the sum of the charges of many spot months, in 10^-8 minor units. For most spot months the open sides of the
+// months show that there are no units, and so no charge.
+fn many_spot_charges(months: &[MonthUnits], rests: &[MonthUnits], spots: &[Spot]) -> u128
+    requires months { total_size months.now ≤ MAX_UNITS }
+    requires rests { total_size rests.now ≤ MAX_UNITS }
+    requires shrinks { Shrinks months.now rests.now }
+    requires few { length spots.now ≤ MAX_SPOT_MONTHS }
+    requires spots { All IsSpot spots.now }
+    ensures value { result ≡ sum_by (spot_charge months.now rests.now) spots.now }
+    ensures bound { result ≤ 2 * (MAX_UNITS * MAX_RATE) * MAX_SPOT_MONTHS }
+{
+    let sides = open_sides(months);
+    let mut sum = 0;
+    for spot in spots {
+        if may_have_units(&sides, spot.month) {
+            sum += spot_charge(months, rests, spot);
+        }
+    }
+    sum
+}
+
 // Returns the sum of the charges of spot months, in 10^-8 minor units.
 fn spot_charges(months: &[MonthUnits], rests: &[MonthUnits], spots: &[Spot]) -> u128
     requires months { total_size months.now ≤ MAX_UNITS }
@@ -112,6 +138,9 @@ fn spot_charges(months: &[MonthUnits], rests: &[MonthUnits], spots: &[Spot]) -> 
     ensures value { result ≡ sum_by (spot_charge months.now rests.now) spots.now }
     ensures bound { result ≤ 2 * (MAX_UNITS * MAX_RATE) * MAX_SPOT_MONTHS }
 {
+    if spots.len() > FEW_SPOT_MONTHS {
+        return many_spot_charges(months, rests, spots);
+    }
     let mut sum = 0;
     for spot in spots {
         sum += spot_charge(months, rests, spot);

@@ -1,3 +1,2 @@
 pub mod FaultLemmas
-pub mod FrontLemmas
 pub mod ProfileLemmas

@@ -65,7 +65,7 @@ fn part_of(
     let sums = sums(held);
     let scan = scan(&sums);
     months.refill(held)?;
-    tiers.run(held, months, tables.tiers_of(commodity), plan)?;
+    tiers.run(held, months, plan)?;
     let delivery = tiers.delivery(months, tables.spots(commodity));
     let minimum = minimum(held, of.minimum_rate, of.method);
     Ok(Part {

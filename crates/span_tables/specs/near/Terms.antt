@@ -1,5 +1,5 @@
 -- The terms of contracts, from which figures are computed.
-use Rattle.std.specs.Prelude.{◌≡◌, ◌≤◌, ◌*◌, ◌&&◌, Bool, bytes_eq, filter, nat_le, ℕ, ◌*ℤ◌, pos, nat_abs, List}
+use Rattle.std.specs.Prelude.{◌≡◌, ◌≤◌, ◌*◌, ◌&&◌, Bool, bytes_eq, filter, nat_le, ℕ, ℤ, ◌*ℤ◌, pos, nat_abs, List}
 use Rattle.std.specs.Prelude.{length, map, All, option_map, slice_get, unwrap_or}
 use Rattle.std.specs.List.{position_or_len}
 use Rattle.span_tables.specs.Accepted.{commodity_number}

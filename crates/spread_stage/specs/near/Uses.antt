@@ -1,5 +1,7 @@
 -- How months gather their units, and how their units are used in order.
-use Rattle.std.specs.Prelude.{ℕ, ◌==◌, nat_lt, if◌then◌else◌, List, [], ◌∷◌, ℤ, ◌+ℤ◌}
+use Rattle.std.specs.Prelude.{ℕ, ◌-◌, ◌==◌, min, nat_lt, if◌then◌else◌, List, [], ◌∷◌, ℤ, ◌+ℤ◌}
+use Rattle.span_tables.specs.Sides.{part_on, less_used}
+use Rattle.span_tables.specs.declared.sides.MarketSide.{MarketSide}
 use Rattle.spread_stage.specs.declared.months.MonthUnits.{MonthUnits}
 
 -- the months with units added to one month, which is inserted in order if it is missing
@@ -21,3 +23,10 @@ with_units_last p units (m ∷ n ∷ ms) = m ∷ with_units_last p units (n ∷ 
 abbrev pub gathered : List MonthUnits → List MonthUnits
 gathered [] = []
 gathered (m ∷ ms) = with_units m.month m.units (gathered ms)
+
+-- the months after `needed` units on a side of the market were used, in the order of the months
+abbrev pub used_in_turn : MarketSide → ℕ → List MonthUnits → List MonthUnits
+used_in_turn on needed [] = []
+used_in_turn on needed (m ∷ ms) =
+    record { month = m.month; units = less_used on m.units (min (part_on on m.units) needed) }
+    ∷ used_in_turn on (needed - min (part_on on m.units) needed) ms
