@@ -201,7 +201,7 @@ class Values:
             yield from self._subject.changes(orders)
 
     def pairs(self, orders: Sequence[Sequence[int]]) -> Iterator[Iterator[Step]]:
-        """For each order in which positions are added, its steps and those of its reverse."""
+        """For each order in which positions are added, the steps of the order and of its reverse."""
         for order, tried in zip(orders, self._desk._wait_for_each(map(self._pair, orders), self._deadline)):
             yield self._steps(order, iter(self._subject.changes(tried)))
 
@@ -226,7 +226,7 @@ class Walk(Values):
         self._desk._wait_for(_questions.walked(self._subject.account, self._blocks(range(len(self._subject.held)), 1)), self._deadline)
 
     def _blocks(self, order: Sequence[int], sign: int) -> List[List[Tuple[str, int]]]:
-        """The legs of an order in blocks, each of which is one fill."""
+        """The legs of an order in blocks. Each block is one fill."""
         return [self._subject.legs(order[begin : begin + BLOCK], sign) for begin in range(0, len(order), BLOCK)]
 
     def _pair(self, order: Sequence[int]) -> Question[TriedOrders]:
@@ -357,7 +357,7 @@ def attribution(desk: "Desk", account: str, of: str, seed: int, deadline: Deadli
 
 
 def answered(values: Values, subject: Subject, whole: AccountExplanation, seed: int) -> Attribution:
-    """The answer from the values of sets of positions. Raises PositionsChangedError if they are not those of the explanation."""
+    """The answer from the values of sets of positions. Raises PositionsChangedError if the parts do not sum to the explanation."""
     count, columns = len(subject.held), list(subject.columns)
     is_exact = count <= MOST_EXACT
     marginals = [sum(row.values()) for row in values.closing([[at] for at in range(count)])]

@@ -271,7 +271,7 @@ class Roll(Result[Statement]):
         return [{"roll": name, "set": it.set, "accounts": it.to_dicts()} for name, it in self.items()]
 
     def _frame(self, word: str) -> Any:
-        """The lines of both statements. The column `roll` says of which each is."""
+        """The lines of both statements. The column `roll` says which statement a line belongs to."""
         frame = super()._frame(word)
         frame.insert(0, "roll", [name for name, it in self.items() for _ in it._lines_of(word)])
         return frame
