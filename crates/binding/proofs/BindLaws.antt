@@ -20,7 +20,7 @@ use Rattle.span_tables.proofs.NameLemmas.{same_name}
 use Rattle.binding.specs.Binding.{all_unfit, among, bind_fault, bind_faults, bindings_of, is_first_of_contract, is_known, is_memory}
 use Rattle.binding.specs.Binding.{is_unknown, known_records}
 use Rattle.binding.specs.near.Holdings.{excess_of, found_faults, ids_of, is_over_at, portfolios_from}
-use Rattle.binding.specs.near.Ledgers.{is_foreign, is_listed, foreign_faults, listed_records, AreGathered}
+use Rattle.binding.specs.near.Ledgers.{is_foreign, is_listed, foreign_faults, listed_records, AreGathered, AreNumbers}
 use Rattle.binding.specs.near.Nets.{entries_of}
 use Rattle.binding.specs.near.Sums.{kept_holding, kept_holdings}
 use Rattle.binding.specs.declared.ledgers.Entry.{Entry}
@@ -186,14 +186,13 @@ module _ (contracts : List Contract) (positions : List PositionRecord) (faults :
 
 -- gathering records gives their nets and their faults
 pub gathered_of : (contracts : List Contract) (positions : List PositionRecord) (ids : List (List ℕ)) (unknown : List BindFault)
-    (ledgers : List (List Entry)) (nets : List (List Holding)) → has_repeat (λ x y. bytes_eq x.id y.id) contracts ≡ false
-    → ids ≡ ids_of contracts → unknown ≡ foreign_faults ids positions
-    → ledgers ≡ map (entries_of ids (listed_records ids positions)) (accounts_of positions)
+    (ledgers : List (List Entry)) (nets : List (List Holding)) → AreNumbers ids → ids ≡ ids_of contracts
+    → unknown ≡ foreign_faults ids positions → ledgers ≡ map (entries_of ids (listed_records ids positions)) (accounts_of positions)
     → nets ≡ map (kept_holdings (length ids)) ledgers → AreGathered ids positions unknown nets
-gathered_of contracts positions ids unknown ledgers nets alone is unknown_are ledgers_are nets_are = record {
+gathered_of contracts positions ids unknown ledgers nets numbers is unknown_are ledgers_are nets_are = record {
   contracts = contracts;
   ids_are = sym is;
-  apart = ap (has_repeat bytes_eq) is ∙ sym (ids_apart contracts) ∙ alone;
+  apart = numbers.apart;
   unknown_are = unknown_are;
   nets_are = nets_are ∙ ap (map (kept_holdings (length ids))) ledgers_are;
 }

@@ -136,6 +136,7 @@ pub marks_more : (marks : List ℕ) (c w n : ℕ) → c < n → c / 64 < length 
 marks_more marks c w n lt word is are = record {
   room = omega (arith, are.room, length-set marks (c / 64) (bit_or w (1 * 2 ^ (c % 64) % 2 ^ 64)));
   within = λ k e. by k (cases_eq k c) (sym (mark_set marks c w word is k) ∙ e);
+  few = are.few;
 }
   where
     by : (k : ℕ) → (k ≡ c) ⊎ (k ≡ c → ⊥) → (is_marked marks k || (k == c)) ≡ true → k < n

@@ -52,7 +52,7 @@ impl Binder {
     pub fn new(alloc: Global, tables: &Tables) -> Result<Binder, AllocError>
         ensures { IfOk result (λ binder. binder ≡ ids_of tables.now.contracts) }
     {
-        let numbers = ids_of(alloc, tables.contracts())?;
+        let numbers = ids_of(alloc, tables)?;
         Ok(Binder { numbers })
     }
 

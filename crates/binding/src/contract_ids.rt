@@ -1,23 +1,23 @@
 //! The numbers of contracts by their ids.
-ghost use Rattle.std.specs.Prelude.{◌≡◌, ◌≤◌, false, bytes_eq, length, map, nat_lt, IfOk};
+ghost use Rattle.std.specs.Prelude.{◌≡◌, ◌≤◌, length, map, nat_lt, IfOk};
 ghost use Rattle.std.specs.List.{list_all};
-ghost use Rattle.span_tables.specs.Names.{has_repeat};
 ghost use Rattle.span_tables.specs.declared.limits.TheConstants.{MAX_CONTRACTS};
 ghost use Rattle.binding.specs.near.Holdings.{ids_of};
-ghost use Rattle.binding.specs.near.Ledgers.{contract_place};
+ghost use Rattle.binding.specs.near.Ledgers.{contract_place, AreNumbers};
 
 use indexmap::IndexSet;
 use span_tables::name::Name;
-use span_tables::records::{Contract, NumberedPosition};
+use span_tables::records::NumberedPosition;
+use span_tables::tables::Tables;
 use std::alloc::{AllocError, Global};
 
-/// Returns the ids of contracts with distinct ids. The index of an id is the number of its contract.
-pub(crate) fn ids_of(alloc: Global, contracts: &[Contract]) -> Result<IndexSet<Name>, AllocError>
-    requires { has_repeat (λ x y. bytes_eq x.id y.id) contracts.now ≡ false }
-    ensures { IfOk result (λ numbers. numbers.keys ≡ ids_of contracts.now) }
+/// Returns the ids of the contracts of tables. The index of an id is the number of its contract.
+pub(crate) fn ids_of(alloc: Global, tables: &Tables) -> Result<IndexSet<Name>, AllocError>
+    ensures value { IfOk result (λ numbers. numbers.keys ≡ ids_of tables.now.contracts) }
+    ensures known { IfOk result (λ numbers. AreNumbers numbers.keys) }
 {
     let mut numbers = IndexSet::new(alloc);
-    for contract in contracts {
+    for contract in tables.contracts() {
         numbers.insert(contract.id.copied())?;
     }
     Ok(numbers)

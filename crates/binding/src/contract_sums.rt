@@ -44,21 +44,21 @@ fn is_set(word: u64, place: usize) -> bool
 }
 
 // A sum plus one more quantity.
-fn plus(sum: i128, quantity: i64) -> i128
+fn plus(sum: i128, quantity: i32) -> i128
     requires { nat_abs sum + nat_abs quantity < 2 ^ 127 }
     ensures { result ≡ sum +ℤ quantity }
 {
     sum + i128::from(quantity)
 }
 
-// A stored net, in 64 bits: a net over the limit, long or short, is stored as `MAX_NET + 1`.
-fn kept_net(net: i128) -> i64
+// A stored net, in 32 bits: a net over the limit, long or short, is stored as `MAX_NET + 1`.
+fn kept_net(net: i128) -> i32
     ensures { result ≡ kept_net net }
 {
     if net.unsigned_abs() > u128::from(MAX_NET) {
-        return MAX_NET as i64 + 1;
+        return MAX_NET as i32 + 1;
     }
-    net as i64
+    net as i32
 }
 
 // Appends the net in the contract of a mark, unless it is 0.
@@ -68,14 +68,18 @@ fn push_held(
     word: usize,
     mark: u32,
 ) -> Result<(), AllocError>
-    requires { MARKS * word + mark < length places.now }
+    requires number { MARKS * word + mark < length places.now }
+    requires few { length places.now < 2 ^ 32 }
     ensures { OnOk result (held.new.items ≡ held.old.items ++ map kept_holding
         (held_part (MARKS * word + mark) (slice_index_or places.now (MARKS * word + mark) (pos 0)))) }
 {
     let contract = MARKS * word + mark as usize;
     let net = kept_net(places[contract]);
     if net != 0 {
-        held.push(Holding { contract, net })?;
+        held.push(Holding {
+            contract: contract as u32,
+            net,
+        })?;
     }
     Ok(())
 }
@@ -103,11 +107,11 @@ fn push_word(
 
 impl Sums {
     /// Returns `count` sums of 0. `Err` is out of memory.
-    pub(crate) fn new(alloc: Global, count: usize) -> Result<Sums, AllocError>
+    pub(crate) fn new(alloc: Global, count: u32) -> Result<Sums, AllocError>
         ensures { IfOk result (λ sums. sums ≡ replicate count (pos 0)) }
     {
-        let places = vec![in alloc; 0i128; count]?;
-        let marks = vec![in alloc; 0u64; count / MARKS + 1]?;
+        let places = vec![in alloc; 0i128; count as usize]?;
+        let marks = vec![in alloc; 0u64; count as usize / MARKS + 1]?;
         Ok(Sums { places, marks })
     }
 
@@ -138,10 +142,10 @@ impl Sums {
     }
 
     /// Sets the number of sums, and each sum to 0. It allocates only if the number changes.
-    pub(crate) fn start(&mut self, alloc: Global, count: usize) -> Result<(), AllocError>
+    pub(crate) fn start(&mut self, alloc: Global, count: u32) -> Result<(), AllocError>
         ensures { OnOk result (self.new ≡ replicate count (pos 0)) }
     {
-        if self.len() != count {
+        if self.len() != count as usize {
             *self = Sums::new(alloc, count)?;
             return Ok(());
         }
@@ -150,7 +154,7 @@ impl Sums {
     }
 
     /// Adds a quantity to the sum of a number. A number past the end is ignored.
-    pub(crate) fn add(&mut self, number: usize, quantity: i64)
+    pub(crate) fn add(&mut self, number: usize, quantity: i32)
         requires room { nat_abs (slice_index_or self.old number (pos 0)) + nat_abs quantity < 2 ^ 127 }
         ensures { self.new ≡ slice_set self.old number (slice_index_or self.old number (pos 0) +ℤ quantity) }
     {

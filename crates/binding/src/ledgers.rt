@@ -2,7 +2,7 @@
 ghost use Rattle.std.specs.Prelude.{◌≡◌, ◌<◌, ◌≤◌, ◌+◌, ◌++◌, ◌∷◌, [], drop, false, map, take};
 ghost use Rattle.std.specs.Prelude.{length, nat_abs, replicate, slice_index_or, All, IfOk, IfSome, OnOk};
 ghost use Rattle.std.specs.List.{AllWithin};
-ghost use Rattle.span_tables.specs.declared.limits.TheConstants.{MAX_QUANTITY};
+ghost use Rattle.span_tables.specs.declared.limits.TheConstants.{MAX_CONTRACTS, MAX_QUANTITY};
 ghost use Rattle.binding.specs.near.Ledgers.{contract_place, foreign_faults, held_entries, is_of, known_entry, listed_records};
 ghost use Rattle.binding.specs.near.Nets.{entries_of};
 ghost use Rattle.span_tables.specs.Net.{accounts_of};
@@ -20,8 +20,8 @@ use std::marker::Model;
 /// A position record of an account: the number of its contract, and its quantity in contracts.
 #[derive(Clone, Copy)]
 pub(crate) struct Entry {
-    pub(crate) contract: usize,
-    pub(crate) quantity: i64,
+    pub(crate) contract: u32,
+    pub(crate) quantity: i32,
 }
 
 /// The entries of one account, in file order. Contracts see the list of the entries.
@@ -102,13 +102,14 @@ impl Ledger {
 // The entry of a record, or `None` if its contract is not known.
 #[tactic(auto, unfolding(crate::specs::near::Ledgers::known_entry))]
 fn known_entry(numbers: &IndexSet<Name>, position: &NumberedPosition) -> Option<Entry>
+    requires { length numbers.now.keys ≤ MAX_CONTRACTS }
     ensures entry { result ≡ known_entry numbers.now.keys position.now.contract position.now.quantity }
     ensures quantity { IfSome result (λ entry. entry.quantity ≡ position.now.quantity) }
 {
     let contract = numbers.get_index_of(&position.contract)?;
     Some(Entry {
-        contract,
-        quantity: i64::from(position.quantity),
+        contract: contract as u32,
+        quantity: position.quantity,
     })
 }
 
@@ -199,6 +200,7 @@ pub(crate) fn gather(
     numbers: &IndexSet<Name>,
     positions: &RawPositions,
 ) -> Result<Gathered, AllocError>
+    requires { length numbers.now.keys ≤ MAX_CONTRACTS }
     ensures unknown { IfOk result (λ gathered. gathered.unknown.items ≡ foreign_faults numbers.now.keys positions.now) }
     ensures ledgers { IfOk result (λ gathered. gathered.ledgers.items
         ≡ map (entries_of numbers.now.keys (listed_records numbers.now.keys positions.now)) (accounts_of positions.now)) }
@@ -226,8 +228,8 @@ fn found_entry(found: &[u16], number: usize, position: &NumberedPosition) -> Ent
     ensures { result ≡ record { contract = slice_index_or found.now number 0; quantity = position.now.quantity } }
 {
     Entry {
-        contract: usize::from(found[number]),
-        quantity: i64::from(position.quantity),
+        contract: u32::from(found[number]),
+        quantity: position.quantity,
     }
 }
 

@@ -5,7 +5,7 @@ ghost use Rattle.std.specs.List.{range_with_len};
 ghost use Rattle.binding.specs.near.Holdings.{is_over};
 ghost use Rattle.binding.specs.near.Nets.{entry_net};
 ghost use Rattle.binding.specs.near.Sums.{kept_holdings};
-ghost use Rattle.span_tables.specs.declared.limits.TheConstants.{MAX_QUANTITY};
+ghost use Rattle.span_tables.specs.declared.limits.TheConstants.{MAX_CONTRACTS, MAX_QUANTITY};
 
 use crate::contract_sums::Sums;
 use crate::ledgers::{Entry, Ledger};
@@ -39,7 +39,7 @@ impl Model for AccountNets {
 pub(crate) fn is_over(holding: &Holding) -> bool
     ensures { result ≡ is_over holding.now }
 {
-    holding.net.unsigned_abs() > MAX_NET
+    u64::from(holding.net.unsigned_abs()) > MAX_NET
 }
 
 // The nets that are over the limit, long or short.
@@ -88,7 +88,7 @@ fn add(nets: &mut Sums, entry: &Entry)
     ensures { nets.new ≡ slice_set nets.old entry.now.contract
         (slice_index_or nets.old entry.now.contract (pos 0) +ℤ entry.now.quantity) }
 {
-    nets.add(entry.contract, entry.quantity);
+    nets.add(entry.contract as usize, entry.quantity);
 }
 
 // Adds each entry's quantity to the net of its contract. All nets are 0 at the start.
@@ -106,7 +106,7 @@ fn add_all(nets: &mut Sums, entries: &[Entry])
 pub(crate) fn account_nets(
     alloc: Global,
     sums: &mut Sums,
-    contracts: usize,
+    contracts: u32,
     ledger: &Ledger,
 ) -> Result<AccountNets, AllocError>
     ensures { IfOk result (λ nets. nets ≡ kept_holdings contracts ledger.now) }
@@ -124,9 +124,10 @@ pub(crate) fn all_nets(
     numbers: &IndexSet<Name>,
     ledgers: Vec<Ledger>,
 ) -> Result<Vec<AccountNets>, AllocError>
+    requires { length numbers.now.keys ≤ MAX_CONTRACTS }
     ensures { IfOk result (λ nets. nets.items ≡ map (kept_holdings (length numbers.now.keys)) ledgers.items) }
 {
-    let contracts = numbers.len();
+    let contracts = numbers.len() as u32;
     let mut sums = Sums::new(alloc, contracts)?;
     let mut nets = Vec::with_capacity(alloc, ledgers.len())?;
     for ledger in ledgers {

@@ -31,7 +31,7 @@ use std::marker::Model;
 /// portfolios are made on request.
 #[derive(Drop)]
 pub struct Orders {
-    contracts: usize,
+    contracts: u32,
     portfolios: Portfolios,
     orders: Vec<KeptOrder>,
 }
@@ -131,7 +131,7 @@ fn bind_orders_of(
     ensures { (contracts : List Contract) → ids_of contracts ≡ numbers.now.keys
         → Gives is_memory result (orders_bound contracts portfolios records.now) }
 {
-    let contracts = numbers.len();
+    let contracts = numbers.len() as u32;
     let positions = records.by_order();
     let gathered = gather(alloc, numbers, positions)?;
     let held = portfolios.as_slice();
@@ -182,8 +182,8 @@ impl OrderBinder {
     pub fn new(alloc: Global, tables: &Tables) -> Result<OrderBinder, AllocError>
         ensures { IfOk result (λ binder. binder ≡ ids_of tables.now.contracts) }
     {
-        let numbers = ids_of(alloc, tables.contracts())?;
-        let sums = Sums::new(alloc, numbers.len())?;
+        let numbers = ids_of(alloc, tables)?;
+        let sums = Sums::new(alloc, numbers.len() as u32)?;
         Ok(OrderBinder { numbers, sums })
     }
 

@@ -46,7 +46,7 @@ fn is_over_at(holdings: &[Holding], contract: usize) -> bool
     requires { IsStrictlyIncreasing (map (λ h. h.contract) holdings.now) }
     ensures { result ≡ is_over_at contract holdings.now }
 {
-    match holdings.binary_search_by_key(&contract, |holding| holding.contract) {
+    match holdings.binary_search_by_key(&contract, |holding| holding.contract as usize) {
         Ok(place) => is_over(&holdings[place]),
         Err(_) => false,
     }

@@ -1,11 +1,10 @@
 //! The binding of positions to tables.
-ghost use Rattle.std.specs.Prelude.{◌≡◌, false, length, bytes_eq, All, IfOk, List};
+ghost use Rattle.std.specs.Prelude.{◌≡◌, length, All, IfOk, List};
 ghost use Rattle.binding.specs.Binding.{bind_faults, bindings_of, is_memory};
 ghost use Rattle.binding.specs.near.Holdings.{ids_of, portfolios_from};
 ghost use Rattle.binding.specs.near.Ledgers.{AreGathered};
 ghost use Rattle.span_tables.specs.Gives.{Gives};
 ghost use Rattle.span_tables.specs.Holdings.{ArePortfolio};
-ghost use Rattle.span_tables.specs.Names.{has_repeat};
 ghost use Rattle.span_tables.specs.declared.records.Contract.{Contract};
 
 use crate::contract_ids::ids_of;
@@ -17,7 +16,6 @@ use indexmap::IndexSet;
 use span_tables::name::Name;
 use span_tables::portfolios::{Portfolio, Portfolios};
 use span_tables::raw::RawPositions;
-use span_tables::records::Contract;
 use span_tables::tables::Tables;
 use std::alloc::{AllocError, Global};
 
@@ -75,22 +73,6 @@ pub(crate) fn portfolios_or_fault(
     Ok(all)
 }
 
-/// Returns the holdings of each account in these contracts, or the fault of the records. The ids of the contracts must
-/// be distinct.
-pub fn bind_positions(
-    alloc: Global,
-    contracts: &[Contract],
-    positions: &RawPositions,
-) -> Result<Portfolios, BindFault>
-    requires { has_repeat (λ x y. bytes_eq x.id y.id) contracts.now ≡ false }
-    ensures { Gives is_memory result (bindings_of contracts.now positions.now) }
-{
-    let numbers = ids_of(alloc, contracts)?;
-    let gathered = gather(alloc, &numbers, positions)?;
-    let nets = all_nets(alloc, &numbers, gathered.ledgers)?;
-    portfolios_or_fault(alloc, &numbers, gathered.unknown, nets, positions)
-}
-
 /// Returns all faults of the positions, B1 to B3 (docs/FORMATS.md, "All faults"). First comes each record whose
 /// contract the tables do not have. Then follow each net out of range and each account that holds too many contracts,
 /// computed without these records.
@@ -101,7 +83,7 @@ pub fn bind_faults(
 ) -> Result<Vec<BindFault>, AllocError>
     ensures { IfOk result (λ faults. faults.items ≡ bind_faults tables.now.contracts positions.now) }
 {
-    let numbers = ids_of(alloc, tables.contracts())?;
+    let numbers = ids_of(alloc, tables)?;
     let gathered = gather(alloc, &numbers, positions)?;
     let nets = all_nets(alloc, &numbers, gathered.ledgers)?;
     faults_of(alloc, &numbers, gathered.unknown, &nets, positions)
@@ -117,5 +99,8 @@ pub fn bind(
 ) -> Result<Portfolios, BindFault>
     ensures { Gives is_memory result (bindings_of tables.now.contracts positions.now) }
 {
-    bind_positions(alloc, tables.contracts(), positions)
+    let numbers = ids_of(alloc, tables)?;
+    let gathered = gather(alloc, &numbers, positions)?;
+    let nets = all_nets(alloc, &numbers, gathered.ledgers)?;
+    portfolios_or_fault(alloc, &numbers, gathered.unknown, nets, positions)
 }

@@ -9,33 +9,24 @@ use Rattle.span_money.specs.Numbers.{positive_part, negative_part}
 use Rattle.span_tables.specs.Accepted.{IsInter}
 use Rattle.span_tables.specs.Slots.{IsMarked}
 use Rattle.span_tables.specs.declared.records.Inter.{Inter}
-use Rattle.span_tables.specs.declared.slots.TheConstants.{SLOTS}
+use Rattle.span_money.specs.declared.bits.TheConstants.{BITS}
 use Rattle.span_tables.proofs.SlotLemmas.{marked_kept, marked_new}
-use Rattle.inter_credit.specs.Credits.{inter_both_ways, rest_at, state_at, unspread_state}
+use Rattle.inter_credit.specs.Credits.{inter_both_ways, state_at, unspread_state}
 use Rattle.inter_credit.specs.States.{UsesState}
 use Rattle.span_money.specs.near.Bits.{TakesFirst}
 use Rattle.inter_credit.specs.near.Open.{AreLoaded}
 use Rattle.inter_credit.specs.declared.commodity_state.CommodityState.{CommodityState}
 use Rattle.inter_credit.proofs.RestLaws.{both_ways_use}
-use Rattle.inter_credit.proofs.StateLemmas.{rest_of_state}
 
 -- a commodity that is not loaded
 abbrev blank : CommodityState
 blank = unspread_state (pos 0) 0
 
-pub blank_at : (n k : ℕ) → state_at (replicate n (unspread_state (pos 0) 0)) k ≡ unspread_state (pos 0) 0
-blank_at zero k = refl
-blank_at (suc n) zero = refl
-blank_at (suc n) (suc k) = blank_at n k
-
 -- past the last commodity
-pub blank_past : (states : List CommodityState) (k : ℕ) → length states ≤ k → state_at states k ≡ unspread_state (pos 0) 0
+blank_past : (states : List CommodityState) (k : ℕ) → length states ≤ k → state_at states k ≡ unspread_state (pos 0) 0
 blank_past [] k le = refl
 blank_past (state ∷ states) zero le = absurd (omega arith)
 blank_past (state ∷ states) (suc k) le = blank_past states k (omega arith)
-
-pub none_loaded : (loaded n : ℕ) → AreLoaded loaded (replicate n (unspread_state (pos 0) 0))
-none_loaded loaded n k = inr (blank_at n k)
 
 pub set_here : (states : List CommodityState) (i : ℕ) (state : CommodityState) → i < length states
     → state_at (set states i state) i ≡ state
@@ -53,18 +44,18 @@ set_other (x ∷ xs) (suc i) (suc k) state ne = set_other xs i k state (λ e. ne
 
 -- one more commodity is loaded
 pub load_marked : (loaded i : ℕ) (states : List CommodityState) (state : CommodityState) → AreLoaded loaded states
-    → AreLoaded (bit_or loaded (1 * 2 ^ (i % SLOTS) % 2 ^ 64)) (set states i state)
+    → AreLoaded (bit_or loaded (1 * 2 ^ (i % BITS) % 2 ^ 64)) (set states i state)
 load_marked loaded i states state are k = by (cases_eq k i) (are k)
   where
-    word : bit_or loaded (1 * 2 ^ (i % SLOTS) % 2 ^ 64) ≡ bit_or loaded (2 ^ (i % SLOTS))
-    word = ap (bit_or loaded) (one_shl (i % SLOTS) 64 (omega arith))
+    word : bit_or loaded (1 * 2 ^ (i % BITS) % 2 ^ 64) ≡ bit_or loaded (2 ^ (i % BITS))
+    word = ap (bit_or loaded) (one_shl (i % BITS) 64 (omega arith))
 
-    marked : (j : ℕ) → IsMarked (bit_or loaded (2 ^ (i % SLOTS))) j → IsMarked (bit_or loaded (1 * 2 ^ (i % SLOTS) % 2 ^ 64)) j
-    marked j m = ap (λ n. bit_at n (j % SLOTS)) word ∙ m
+    marked : (j : ℕ) → IsMarked (bit_or loaded (2 ^ (i % BITS))) j → IsMarked (bit_or loaded (1 * 2 ^ (i % BITS) % 2 ^ 64)) j
+    marked j m = ap (λ n. bit_at n (j % BITS)) word ∙ m
 
     by : (k ≡ i) ⊎ (k ≢ i) → IsMarked loaded k ⊎ (state_at states k ≡ blank)
-        → IsMarked (bit_or loaded (1 * 2 ^ (i % SLOTS) % 2 ^ 64)) k ⊎ (state_at (set states i state) k ≡ blank)
-    by (inl same) before = inl (ap (λ j. bit_at (bit_or loaded (1 * 2 ^ (i % SLOTS) % 2 ^ 64)) (j % SLOTS)) same
+        → IsMarked (bit_or loaded (1 * 2 ^ (i % BITS) % 2 ^ 64)) k ⊎ (state_at (set states i state) k ≡ blank)
+    by (inl same) before = inl (ap (λ j. bit_at (bit_or loaded (1 * 2 ^ (i % BITS) % 2 ^ 64)) (j % BITS)) same
         ∙ marked i (marked_new loaded i))
     by (inr other) (inl m) = inl (marked k (marked_kept loaded i k m))
     by (inr other) (inr is) = inr (set_other states i k state other ∙ is)
@@ -109,19 +100,19 @@ spread_loaded loaded states after spread inter is are =
 
 not_marked : (n k : ℕ) {P : Type 0} → n ≡ 0 → IsMarked n k → P
 not_marked n k none m =
-    absurd (let e : bit_at n (k % SLOTS) ≡ 0 = ap (λ w. bit_at w (k % SLOTS)) none ∙ bit_at-zero (k % SLOTS) in omega (arith, e, m))
+    absurd (let e : bit_at n (k % BITS) ≡ 0 = ap (λ w. bit_at w (k % BITS)) none ∙ bit_at-zero (k % BITS) in omega (arith, e, m))
 
 -- the commodities of the lowest marked slot are set back
 pub slot_back : (before slot after : ℕ) (states next : List CommodityState) → TakesFirst before slot after
-    → ((k : ℕ) → k % SLOTS ≡ slot → state_at next k ≡ unspread_state (pos 0) 0)
-    → ((k : ℕ) → k % SLOTS ≢ slot → state_at next k ≡ state_at states k)
+    → ((k : ℕ) → k % BITS ≡ slot → state_at next k ≡ unspread_state (pos 0) 0)
+    → ((k : ℕ) → k % BITS ≢ slot → state_at next k ≡ state_at states k)
     → AreLoaded before states → AreLoaded after next
-slot_back before slot after states next takes back others are k = by (cases_eq (k % SLOTS) slot) (are k)
+slot_back before slot after states next takes back others are k = by (cases_eq (k % BITS) slot) (are k)
   where
-    by : (k % SLOTS ≡ slot) ⊎ (k % SLOTS ≢ slot) → IsMarked before k ⊎ (state_at states k ≡ blank)
+    by : (k % BITS ≡ slot) ⊎ (k % BITS ≢ slot) → IsMarked before k ⊎ (state_at states k ≡ blank)
         → IsMarked after k ⊎ (state_at next k ≡ blank)
     by (inl same) before = inr (back k same)
-    by (inr other) (inl m) = inl (takes.taken.kept (k % SLOTS) other ∙ m)
+    by (inr other) (inl m) = inl (takes.taken.kept (k % BITS) other ∙ m)
     by (inr other) (inr none) = inr (others k other ∙ none)
 
 all_blank : (states : List CommodityState) → ((k : ℕ) → state_at states k ≡ blank) → states ≡ replicate (length states) blank
@@ -140,30 +131,21 @@ all_back loaded states none are = all_blank states (λ k. by k (are k))
     by k (inl m) = not_marked loaded k none m
     by k (inr is) = is
 
--- a commodity that is not marked has no remaining delta
-pub rest_or_marked : (loaded : ℕ) (states : List CommodityState) (k : ℕ) → AreLoaded loaded states
-    → IsMarked loaded k ⊎ (rest_at states k ≡ pos 0)
-rest_or_marked loaded states k are = by (are k)
-  where
-    by : IsMarked loaded k ⊎ (state_at states k ≡ blank) → IsMarked loaded k ⊎ (rest_at states k ≡ pos 0)
-    by (inl m) = inl m
-    by (inr is) = inr (rest_of_state states k ∙ ap (λ (x : CommodityState). x.rest) is)
-
 -- ---- the commodities of a slot
 
 -- one more commodity of the slot is set back
-pub slot_set : (states after : List CommodityState) (commodity slot : ℕ) → commodity % SLOTS ≡ slot → commodity < length states
+pub slot_set : (states after : List CommodityState) (commodity slot : ℕ) → commodity % BITS ≡ slot → commodity < length states
     → after ≡ set states commodity (unspread_state (pos 0) 0)
-    → ((c : ℕ) → c % SLOTS ≡ slot → c < commodity → state_at states c ≡ unspread_state (pos 0) 0)
-    → ((c : ℕ) → c % SLOTS ≡ slot → c < commodity + SLOTS → state_at after c ≡ unspread_state (pos 0) 0)
-    × ((c : ℕ) → c % SLOTS ≢ slot → state_at after c ≡ state_at states c)
+    → ((c : ℕ) → c % BITS ≡ slot → c < commodity → state_at states c ≡ unspread_state (pos 0) 0)
+    → ((c : ℕ) → c % BITS ≡ slot → c < commodity + BITS → state_at after c ≡ unspread_state (pos 0) 0)
+    × ((c : ℕ) → c % BITS ≢ slot → state_at after c ≡ state_at states c)
 slot_set states after commodity slot of lt is before = (
   λ c same less. ap (λ (ss : List CommodityState). state_at ss c) is ∙ by c same less (cases_eq c commodity),
   λ c other. ap (λ (ss : List CommodityState). state_at ss c) is
-      ∙ set_other states commodity c blank (λ e. other (ap (λ k. k % SLOTS) e ∙ of)),
+      ∙ set_other states commodity c blank (λ e. other (ap (λ k. k % BITS) e ∙ of)),
 )
   where
-    by : (c : ℕ) → c % SLOTS ≡ slot → c < commodity + SLOTS → (c ≡ commodity) ⊎ (c ≢ commodity)
+    by : (c : ℕ) → c % BITS ≡ slot → c < commodity + BITS → (c ≡ commodity) ⊎ (c ≢ commodity)
         → state_at (set states commodity blank) c ≡ blank
     by c same less (inl here) = ap (state_at (set states commodity blank)) here ∙ set_here states commodity blank lt
     by c same less (inr other) =
@@ -171,8 +153,8 @@ slot_set states after commodity slot of lt is before = (
 
 -- all commodities of the slot
 pub slot_set_whole : (states : List CommodityState) (commodity slot : ℕ) → length states ≤ commodity
-    → ((c : ℕ) → c % SLOTS ≡ slot → c < commodity → state_at states c ≡ unspread_state (pos 0) 0)
-    → (c : ℕ) → c % SLOTS ≡ slot → state_at states c ≡ unspread_state (pos 0) 0
+    → ((c : ℕ) → c % BITS ≡ slot → c < commodity → state_at states c ≡ unspread_state (pos 0) 0)
+    → (c : ℕ) → c % BITS ≡ slot → state_at states c ≡ unspread_state (pos 0) 0
 slot_set_whole states commodity slot end before c same = by (cases_lt c commodity)
   where
     by : (c < commodity) ⊎ (commodity ≤ c) → state_at states c ≡ blank

@@ -4,11 +4,13 @@ use Rattle.std.proofs.lemmas.Int.{ints}
 use Rattle.std.specs.Prelude.{pos, ◌-ℤ◌, ◌+ℤ◌}
 use Rattle.span_tables.specs.Sides.{market_side, less_used, spreads_formed}
 use Rattle.span_tables.specs.declared.sides.Direction.{Direction}
+use Rattle.span_tables.specs.declared.sides.Direction.TheVariants.{ALong, AShort}
 use Rattle.span_tables.specs.declared.sides.MarketSide.{MarketSide}
 use Rattle.span_tables.specs.declared.sides.MarketSide.TheVariants.{Long, Short}
 use Rattle.span_tables.specs.declared.records.CommodityLeg.{CommodityLeg}
 use Rattle.span_tables.specs.declared.records.Inter.{Inter}
-use Rattle.inter_credit.specs.Credits.{change_at, commodity_rooms, inter_one_way, state_after, states_after}
+use Rattle.inter_credit.specs.Credits.{change_at, commodity_rooms, inter_both_ways, inter_one_way, state_after, states_after}
+use Rattle.inter_credit.specs.near.Index.{FormsNothing}
 use Rattle.inter_credit.specs.declared.commodity_state.CommodityState.{CommodityState}
 
 none_used : (on : MarketSide) (z : ℤ) → less_used on z 0 ≡ z
@@ -40,3 +42,10 @@ none_formed d b (leg ∷ legs) states =
 pub nothing_formed : (spread : Inter) (d : Direction) (states : List CommodityState)
     → spreads_formed (commodity_rooms d spread.legs states) ≡ 0 → inter_one_way spread d states ≡ states
 nothing_formed spread d states none = rw none (none_formed d spread.basis_points spread.legs states)
+
+-- a spread that is formed in neither direction changes nothing
+pub nothing_changes : (states : List CommodityState) (spread : Inter) → FormsNothing states spread → inter_both_ways states spread ≡ states
+unfolding inter_both_ways
+nothing_changes states spread nothing =
+    ap (inter_one_way spread AShort) (nothing_formed spread ALong states (nothing ALong))
+    ∙ nothing_formed spread AShort states (nothing AShort)

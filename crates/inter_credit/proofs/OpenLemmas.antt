@@ -1,10 +1,8 @@
--- A direction forms nothing if it needs a side of the market on which a commodity has no remaining delta. Remaining
--- deltas open no new side.
-use Rattle.std.proofs.Common.{◌≡◌, ◌/◌, ◌<◌, ◌≤◌, ℕ, ℤ, nat_abs, pos, zero, suc, Bool, true, false, List, []}
-use Rattle.std.proofs.Common.{◌∷◌, length, replicate, set, refl, sym, ap, ◌∙◌, arith}
-use Rattle.std.specs.List.{All, AllByRecursion}
+-- If spreads are formed, the sides of the market that the legs need are marked. Remaining deltas open no new side.
+use Rattle.std.proofs.Common.{◌≡◌, ◌/◌, ◌<◌, ◌≤◌, ℕ, ℤ, nat_abs, pos, zero, suc, List, []}
+use Rattle.std.proofs.Common.{◌∷◌, length, set, refl, sym, ap, subst, ◌∙◌, arith}
+use Rattle.std.specs.List.{AllByRecursion}
 use Rattle.std.proofs.Math.Nat.{zero-div}
-use Rattle.std.proofs.lemmas.List.Elements.{All-from_recursion}
 use Rattle.span_tables.specs.Accepted.{IsInter}
 use Rattle.span_tables.specs.Sides.{IsLeftOf, market_side, part_on, spreads_formed}
 use Rattle.span_tables.specs.Slots.{IsMarked, IsOpenAt, numbers_on}
@@ -13,15 +11,14 @@ use Rattle.span_tables.specs.declared.records.Inter.{Inter}
 use Rattle.span_tables.specs.declared.sides.Direction.{Direction}
 use Rattle.span_tables.specs.declared.sides.MarketSide.TheVariants.{Long, Short}
 use Rattle.span_tables.specs.declared.slots.OpenSides.{OpenSides}
-use Rattle.inter_credit.specs.Credits.{commodity_rooms, inter_one_way, state_at, rest_at, unspread_state}
+use Rattle.inter_credit.specs.Credits.{commodity_rooms, inter_both_ways, state_at, rest_at, unspread_state}
 use Rattle.inter_credit.specs.States.{IsNotLoaded, IsUnspread, IsUnspreadState}
 use Rattle.inter_credit.specs.near.CommodityStates.{IsCommodityState}
 use Rattle.inter_credit.specs.declared.commodity_state.CommodityState.{CommodityState}
 use Rattle.inter_credit.specs.near.Open.{AreOpen}
 use Rattle.span_tables.specs.declared.limits.TheConstants.{MAX_PRICE2, MAX_UNITS}
 use Rattle.inter_credit.proofs.StateLemmas.{rest_of_state}
-use Rattle.inter_credit.proofs.NothingFormed.{nothing_formed}
-use Rattle.inter_credit.proofs.RestLaws.{one_way_uses}
+use Rattle.inter_credit.proofs.RestLaws.{both_ways_use}
 
 -- a number with a quotient above 0 is above 0
 pub some_of_some : (x d : ℕ) → 0 < x / d → 0 < x
@@ -29,7 +26,7 @@ some_of_some zero d some = absurd (omega (arith, some, zero-div d))
 some_of_some (suc x) d some = omega arith
 
 -- if spreads are formed, each leg's commodity is marked
-legs_marked : (d : Direction) (sides : OpenSides) (states : List CommodityState) → AreOpen sides states → (legs : List CommodityLeg)
+pub legs_marked : (d : Direction) (sides : OpenSides) (states : List CommodityState) → AreOpen sides states → (legs : List CommodityLeg)
     → 0 < spreads_formed (commodity_rooms d legs states)
     → AllByRecursion (λ leg. IsMarked (numbers_on (market_side d leg.side) sides) leg.commodity) legs
 legs_marked d sides states open_sides [] some = tt
@@ -44,49 +41,18 @@ legs_marked d sides states open_sides (leg ∷ next ∷ legs) some =
       legs_marked d sides states open_sides (next ∷ legs) others,
     )
 
-closed_by : (n : ℕ) (spread : Inter) (d : Direction) (sides : OpenSides) (states : List CommodityState) (marked : Bool)
-    → spreads_formed (commodity_rooms d spread.legs states) ≡ n
-    → (All (λ leg. IsMarked (numbers_on (market_side d leg.side) sides) leg.commodity) spread.legs → marked ≡ true)
-    → AreOpen sides states → marked ≡ false → inter_one_way spread d states ≡ states
-closed_by zero spread d sides states marked formed tells open_sides not = nothing_formed spread d states formed
-closed_by (suc n) spread d sides states marked formed tells open_sides not =
-    let is : marked ≡ true =
-    tells (All-from_recursion (λ leg. IsMarked (numbers_on (market_side d leg.side) sides) leg.commodity) spread.legs
-    (legs_marked d sides states open_sides spread.legs (omega (arith, formed)))) in
-    absurd cc
-
--- if a leg's commodity is not marked, nothing is formed
-pub closed_way : (spread : Inter) (d : Direction) (sides : OpenSides) (states : List CommodityState) (marked : Bool)
-    → (All (λ leg. IsMarked (numbers_on (market_side d leg.side) sides) leg.commodity) spread.legs → marked ≡ true)
-    → AreOpen sides states → marked ≡ false → inter_one_way spread d states ≡ states
-closed_way spread d sides states marked tells open_sides not =
-    closed_by (spreads_formed (commodity_rooms d spread.legs states)) spread d sides states marked refl tells open_sides not
-
 open_left : (sides : OpenSides) (k : ℕ) (before after : ℤ) → IsLeftOf before after → IsOpenAt sides k before
     → IsOpenAt sides k after
 open_left sides k before after left at Long some = at Long (omega (arith, some, left.long))
 open_left sides k before after left at Short some = at Short (omega (arith, some, left.short))
 
 -- the remaining deltas after a spread are on the same sides
-pub open_after : (spread : Inter) (d : Direction) (sides : OpenSides) (states : List CommodityState) → IsInter (length states) spread
-    → AreOpen sides states → AreOpen sides (inter_one_way spread d states)
-open_after spread d sides states inter open_sides k =
-    let uses = one_way_uses spread d states inter k in
-    rw rest_of_state (open_left sides k (state_at states k).rest (state_at (inter_one_way spread d states) k).rest uses.rest
-    (rw rest_of_state at (open_sides k)))
-
-no_rest : (sides : OpenSides) (k : ℕ) → IsOpenAt sides k (pos 0)
-no_rest sides k Long some = absurd (omega (arith, some))
-no_rest sides k Short some = absurd (omega (arith, some))
-
-no_rest_at : (n k : ℕ) → rest_at (replicate n (unspread_state (pos 0) 0)) k ≡ pos 0
-no_rest_at zero k = refl
-no_rest_at (suc n) zero = refl
-no_rest_at (suc n) (suc k) = no_rest_at n k
-
--- commodities without a net delta open no side
-pub none_open : (sides : OpenSides) (n : ℕ) → AreOpen sides (replicate n (unspread_state (pos 0) 0))
-none_open sides n k = rw (no_rest_at n k) (no_rest sides k)
+pub spread_open : (sides : OpenSides) (states after : List CommodityState) (spread : Inter) → IsInter (length states) spread
+    → after ≡ inter_both_ways states spread → AreOpen sides states → AreOpen sides after
+spread_open sides states after spread inter is open_sides =
+    subst (AreOpen sides) (sym is)
+    (λ k. rw rest_of_state (open_left sides k (state_at states k).rest (state_at (inter_both_ways states spread) k).rest
+    (both_ways_use states spread inter k).rest (rw rest_of_state at (open_sides k))))
 
 -- loading a commodity opens its side
 set_open : (P : ℕ → ℤ → Type 0) (states : List CommodityState) (i : ℕ) (state : CommodityState) → ((k : ℕ) → P k (rest_at states k))

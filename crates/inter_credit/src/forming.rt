@@ -1,6 +1,6 @@
 //! Intercommodity spreads: the number that is formed in a direction, and the units that it uses of each commodity
 //! (docs/METHOD.md, Intercommodity spreads).
-ghost use Rattle.std.specs.Prelude.{◌≡◌, ◌<◌, ◌≤◌, ◌*◌, ◌/◌, ◌+◌, length, false, List, All};
+ghost use Rattle.std.specs.Prelude.{◌≡◌, ◌<◌, ◌≤◌, ◌*◌, ◌/◌, ◌+◌, length, false, All};
 ghost use Rattle.span_tables.specs.Accepted.{IsInter};
 ghost use Rattle.span_tables.specs.Sides.{market_side, part_on, spreads_formed};
 ghost use Rattle.span_tables.specs.declared.limits.TheConstants.{MAX_BASIS_POINTS};
@@ -8,14 +8,10 @@ ghost use Rattle.inter_credit.specs.Credits.{change_at, commodity_rooms, inter_f
 ghost use Rattle.inter_credit.specs.Credits.{inter_one_way, leg_side, state_after, states_after};
 ghost use Rattle.inter_credit.specs.near.Rooms.{HaveRoom};
 ghost use Rattle.inter_credit.specs.near.CommodityStates.{IsCommodityState};
-ghost use Rattle.inter_credit.specs.near.Open.{AreOpen};
-ghost use Rattle.inter_credit.specs.declared.commodity_state.CommodityState.{CommodityState};
 
 use crate::commodity_state::CommodityState;
-use span_money::division::greatest_fit;
 use span_tables::records::{CommodityLeg, Inter};
 use span_tables::sides::{Direction, MarketSide, SpreadsFormed, less_used, market_side, part_on};
-use span_tables::slots::OpenSides;
 
 // Returns the number of spreads that a leg's commodity has room for, in 10^-4 spreads.
 fn room(states: &[CommodityState], leg: &CommodityLeg, direction: Direction) -> u64
@@ -28,7 +24,7 @@ fn room(states: &[CommodityState], leg: &CommodityLeg, direction: Direction) -> 
     if side == 0 {
         return 0;
     }
-    greatest_fit(side, leg.ratio)
+    leg.ratio.greatest_fit(side)
 }
 
 // Returns the number of spreads formed in a direction, in 10^-4 spreads. It is the greatest that each leg has room for.
@@ -110,11 +106,12 @@ fn use_legs(
     }
 }
 
-// Forms a spread in one direction.
-fn form(states: &mut [CommodityState], spread: &Inter, direction: Direction)
+// Forms a spread in one direction, and returns the number formed.
+fn form(states: &mut [CommodityState], spread: &Inter, direction: Direction) -> u64
     requires states { All IsCommodityState states.old }
     requires spread { IsInter (length states.old) spread.now }
     ensures value { states.new ≡ inter_one_way spread.now direction states.old }
+    ensures formed { result ≡ inter_formed_in spread.now direction states.old }
     ensures states { All IsCommodityState states.new }
 {
     let legs = spread.legs();
@@ -122,86 +119,29 @@ fn form(states: &mut [CommodityState], spread: &Inter, direction: Direction)
     if formed > 0 {
         use_legs(states, legs, direction, formed, spread.basis_points());
     }
-}
-
-// Forms a spread in one direction. It is skipped unless remaining deltas are on the sides of the market that it needs.
-fn spread_one_way(
-    states: &mut [CommodityState],
-    sides: &OpenSides,
-    spread: &Inter,
-    direction: Direction,
-)
-    requires states { All IsCommodityState states.old }
-    requires sides { AreOpen sides.now states.old }
-    requires spread { IsInter (length states.old) spread.now }
-    ensures value { states.new ≡ inter_one_way spread.now direction states.old }
-    ensures states { All IsCommodityState states.new }
-    ensures sides { AreOpen sides.now states.new }
-{
-    if spread.may_form(direction, sides) {
-        form(states, spread, direction);
-    }
-}
-
-// Forms a spread in both directions, with A long first, given the sides of the market that remaining deltas are on.
-#[tactic(auto, unfolding(crate::specs::Credits::inter_both_ways))]
-pub(crate) fn spread_both_ways(states: &mut [CommodityState], sides: &OpenSides, spread: &Inter)
-    requires states { All IsCommodityState states.old }
-    requires sides { AreOpen sides.now states.old }
-    requires spread { IsInter (length states.old) spread.now }
-    ensures value { states.new ≡ inter_both_ways states.old spread.now }
-    ensures states { All IsCommodityState states.new }
-    ensures sides { AreOpen sides.now states.new }
-{
-    spread_one_way(states, sides, spread, Direction::ALong);
-    spread_one_way(states, sides, spread, Direction::AShort);
-}
-
-// Forms a spread in one direction, and returns the number formed.
-fn count_one_way(
-    states: &mut [CommodityState],
-    sides: &OpenSides,
-    spread: &Inter,
-    direction: Direction,
-) -> u64
-    requires states { All IsCommodityState states.old }
-    requires sides { AreOpen sides.now states.old }
-    requires spread { IsInter (length states.old) spread.now }
-    ensures value { states.new ≡ inter_one_way spread.now direction states.old }
-    ensures formed { result ≡ inter_formed_in spread.now direction states.old }
-    ensures states { All IsCommodityState states.new }
-    ensures sides { AreOpen sides.now states.new }
-{
-    let formed = spreads_formed(states, spread.legs(), direction);
-    spread_one_way(states, sides, spread, direction);
     formed
 }
 
 // Forms a spread in both directions, with A long first, and returns the number formed in each.
 #[tactic(auto, unfolding(crate::specs::Credits::inter_both_ways))]
-pub(crate) fn count_both_ways(
-    states: &mut [CommodityState],
-    sides: &OpenSides,
-    spread: &Inter,
-) -> SpreadsFormed
+pub(crate) fn form_both_ways(states: &mut [CommodityState], spread: &Inter) -> SpreadsFormed
     requires states { All IsCommodityState states.old }
-    requires sides { AreOpen sides.now states.old }
     requires spread { IsInter (length states.old) spread.now }
     ensures value { states.new ≡ inter_both_ways states.old spread.now }
     ensures formed { result ≡ inter_formed_both states.old spread.now }
     ensures states { All IsCommodityState states.new }
-    ensures sides { AreOpen sides.now states.new }
 {
-    let a_long = count_one_way(states, sides, spread, Direction::ALong);
-    let a_short = count_one_way(states, sides, spread, Direction::AShort);
+    let a_long = form(states, spread, Direction::ALong);
+    let a_short = form(states, spread, Direction::AShort);
     SpreadsFormed { a_long, a_short }
 }
 
-// Returns whether a spread may be formed in one of the directions. `false` means that none is; `true` means nothing.
-#[tactic(auto, unfolding(crate::specs::Credits::inter_both_ways))]
-pub(crate) fn may_form_either(sides: &OpenSides, spread: &Inter) -> bool
-    ensures { (states : List CommodityState) → AreOpen sides.now states → result ≡ false
-        → inter_both_ways states spread.now ≡ states }
+// Returns whether a spread forms in one of the directions. If `false`, the spread changes nothing.
+pub(crate) fn forms(states: &[CommodityState], spread: &Inter) -> bool
+    requires { IsInter (length states.now) spread.now }
+    ensures { result ≡ false → inter_both_ways states.now spread.now ≡ states.now }
 {
-    spread.may_form(Direction::ALong, sides) || spread.may_form(Direction::AShort, sides)
+    let legs = spread.legs();
+    spreads_formed(states, legs, Direction::ALong) > 0
+        || spreads_formed(states, legs, Direction::AShort) > 0
 }

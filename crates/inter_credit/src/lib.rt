@@ -9,7 +9,6 @@ pub mod index;
 pub mod laws;
 pub mod option_value;
 pub mod requirement;
-mod side_spreads;
 pub mod spreads;
 pub mod state;
 mod worked;

@@ -6,19 +6,19 @@ ghost use Rattle.std.specs.Int.{bit_at};
 ghost use Rattle.inter_credit.specs.Credits.{inter_formed_both, inter_both_ways, state_at, unspread_state};
 ghost use Rattle.span_tables.specs.Accepted.{IsInter};
 ghost use Rattle.span_tables.specs.declared.records.Inter.{Inter};
-ghost use Rattle.span_tables.specs.declared.sides.Side.{Side};
 ghost use Rattle.inter_credit.specs.States.{IsNotLoaded, IsUnspread};
 ghost use Rattle.span_money.specs.declared.bits.TheConstants.{BITS};
-ghost use Rattle.inter_credit.specs.near.Index.{AreCovered, FormsNothing, IsCovered, IsIndex};
+ghost use Rattle.inter_credit.specs.near.Index.{AreCovered, FormsNothing, HasSpread, IsIndex};
 ghost use Rattle.inter_credit.specs.near.Open.{AreLoaded};
 ghost use Rattle.inter_credit.specs.near.CommodityStates.{IsCommodityState};
 ghost use Rattle.span_tables.specs.declared.limits.TheConstants.{MAX_PRICE2, MAX_UNITS};
 
 use crate::commodity_state::CommodityState;
-use crate::forming::{count_both_ways, may_form_either, spread_both_ways};
-use crate::index::{Block, SpreadIndex};
+use crate::forming::{form_both_ways, forms};
+use crate::index::SpreadIndex;
 use span_money::amounts::Units;
 use span_money::bits::{BITS, take_first};
+use span_tables::leg_index::LegIndex;
 use span_tables::records::Inter;
 use span_tables::sides::SpreadsFormed;
 use span_tables::slots::OpenSides;
@@ -59,8 +59,8 @@ impl InterState {
         }
     }
 
-    /// Replaces the state by that of commodities that are not loaded, as `empty` returns it, and reuses its memory. It
-    /// only sets the loaded commodities back, unless the number of commodities changes.
+    /// Unloads all commodities, so that the state is the one that `empty` returns, and reuses its memory. It only sets
+    /// the loaded commodities back, unless the number of commodities changes.
     pub fn restart(&mut self, alloc: Global, commodities: usize) -> Result<(), AllocError>
         ensures { OnOk result (self.new ≡ replicate commodities (unspread_state (pos 0) 0)) }
     {
@@ -143,7 +143,7 @@ impl InterState {
         ensures value { self.new ≡ inter_both_ways self.old spread.now }
         ensures length { length self.new ≡ length self.old }
     {
-        spread_both_ways(&mut self.commodities, &self.sides, spread);
+        self.spread_counted(spread);
     }
 
     /// Forms a spread like `spread`, and returns the number of spreads formed in each direction, in 10^-4 spreads.
@@ -153,7 +153,7 @@ impl InterState {
         ensures formed { result ≡ inter_formed_both self.old spread.now }
         ensures length { length self.new ≡ length self.old }
     {
-        count_both_ways(&mut self.commodities, &self.sides, spread)
+        form_both_ways(&mut self.commodities, spread)
     }
 
     /// Forms the spreads in order, as `spread` forms each. It looks only at the spreads that the index finds.
@@ -172,7 +172,7 @@ impl InterState {
     }
 
     // Forms the spreads of a block in order.
-    fn spread_block(&mut self, block: &Block, spreads: &[Inter])
+    fn spread_block(&mut self, block: &LegIndex, spreads: &[Inter])
         requires spreads { All (IsInter (length self.old)) spreads.now }
         requires block { AreCovered block.now spreads.now }
         ensures value { self.new ≡ fold inter_both_ways self.old spreads.now }
@@ -187,19 +187,19 @@ impl InterState {
     }
 
     // Returns the spreads of a block that may be formed. The others are formed in neither direction.
-    fn may_form(&self, block: &Block) -> u64
-        ensures { (number : ℕ) (spread : Inter) → ((side : Side) → IsCovered block.now side number spread.legs)
-            → bit_at result number ≡ 0 → FormsNothing self.now spread }
+    fn may_form(&self, block: &LegIndex) -> u64
+        ensures { (number : ℕ) (spread : Inter) → HasSpread block.now number spread.legs → bit_at result number ≡ 0
+            → FormsNothing self.now spread }
     {
-        block.may_form(&self.commodities, self.loaded)
+        block.may_form(&self.sides).either()
     }
 
-    /// Returns whether a spread may be formed. `false` means that none is formed and the state does not change. `true`
-    /// means nothing, since a side whose delta was used up still counts.
+    /// Returns whether a spread forms. If `false`, the spread changes nothing.
     pub fn may_spread(&self, spread: &Inter) -> bool
+        requires { IsInter (length self.now) spread.now }
         ensures { result ≡ false → inter_both_ways self.now spread.now ≡ self.now }
     {
-        may_form_either(&self.sides, spread)
+        forms(&self.commodities, spread)
     }
 }
 

@@ -1,7 +1,7 @@
 //! Three commodities with two spreads between them. The second spread uses what the first leaves.
 
 /// Three commodities with a future each, and two intercommodity spreads:
-/// `tests/cases/three-commodities-two-spreads/params.csv`.
+/// `tests/cases/margin/three-commodities-two-spreads/params.csv`.
 pub const PARAMS: &[u8] = b"\
 SET,D1,1,USD
 COMMODITY,AA,0,SUM
@@ -15,7 +15,7 @@ INTER,2,2000,AA,A,1,CC,B,1
 ";
 
 /// An account that is long in the first commodity, and short in the other two:
-/// `tests/cases/three-commodities-two-spreads/positions.csv`.
+/// `tests/cases/margin/three-commodities-two-spreads/positions.csv`.
 pub const POSITIONS: &[u8] = b"\
 X,FA,3
 X,FB,-1
@@ -23,7 +23,7 @@ X,FC,-1
 ";
 
 /// Three long futures at 1200, credited with half of 1200 and a fifth of 1200. The other two are credited with half of
-/// 900 and a fifth of 300: `tests/cases/three-commodities-two-spreads/stdout`.
+/// 900 and a fifth of 300: `tests/cases/margin/three-commodities-two-spreads/stdout`.
 pub const STATEMENT: &[u8] = b"\
 R,X,D1,AA,3600,13,0,0,840,0,2760
 R,X,D1,BB,900,11,0,0,450,0,450

@@ -1,7 +1,7 @@
 //! Two commodities with a spread between them.
 
 /// Two commodities with a future each, and an intercommodity spread:
-/// `tests/cases/two-commodities-one-credit/params.csv`.
+/// `tests/cases/margin/two-commodities-one-credit/params.csv`.
 pub const PARAMS: &[u8] = b"\
 SET,D1,1,USD
 COMMODITY,AA,0,SUM
@@ -12,14 +12,14 @@ INTER,1,5000,AA,A,1,BB,B,1
 ";
 
 /// An account that is long one future in the first commodity, and short two in the second:
-/// `tests/cases/two-commodities-one-credit/positions.csv`.
+/// `tests/cases/margin/two-commodities-one-credit/positions.csv`.
 pub const POSITIONS: &[u8] = b"\
 X,FA,1
 X,FB,-2
 ";
 
 /// One future at 1200, credited with half of it, and two at 900, credited with half of 900:
-/// `tests/cases/two-commodities-one-credit/stdout`.
+/// `tests/cases/margin/two-commodities-one-credit/stdout`.
 pub const STATEMENT: &[u8] = b"\
 R,X,D1,AA,1200,13,0,0,600,0,600
 R,X,D1,BB,1800,11,0,0,450,0,1350
@@ -27,14 +27,14 @@ T,X,D1,1950
 ";
 
 /// Two accounts: one is long one future in the first commodity, the other is short two in the second:
-/// `tests/cases/records-of-two-orders-scattered/positions.csv`.
+/// `tests/cases/whatif/records-of-two-orders-scattered/positions.csv`.
 pub const TWO_ACCOUNTS: &[u8] = b"\
 X,FA,1
 Y,FB,-2
 ";
 
 /// An order of each account. The second account's order comes first, and the records of both alternate:
-/// `tests/cases/records-of-two-orders-scattered/orders.csv`.
+/// `tests/cases/whatif/records-of-two-orders-scattered/orders.csv`.
 pub const ORDERS: &[u8] = b"\
 SWAP,Y,FA,1
 HEDGE,X,FB,-1
@@ -43,7 +43,7 @@ HEDGE,X,FB,-1
 ";
 
 /// With its order, each account holds both commodities, and each commodity earns a credit:
-/// `tests/cases/records-of-two-orders-scattered/stdout`.
+/// `tests/cases/whatif/records-of-two-orders-scattered/stdout`.
 pub const CHANGES: &[u8] = b"\
 CHANGE,SWAP,Y,D1,AA,0,600,600
 CHANGE,SWAP,Y,D1,BB,1800,450,-1350
@@ -54,7 +54,7 @@ ORDER,HEDGE,X,D1,1200,1950,750
 ";
 
 /// The explanation of the account. One spread forms, which credits half of the price risk of each delta it uses:
-/// `tests/cases/two-commodities-one-credit-explained/stdout`.
+/// `tests/cases/explain/two-commodities-one-credit-explained/stdout`.
 pub const EXPLANATION: &[u8] = b"\
 HELD,X,D1,AA,FA,F,202503,1
 SUMS,X,D1,AA,0,0,-400,-400,400,400,-800,-800,800,800,-1200,-1200,1200,1200,-1188,1188

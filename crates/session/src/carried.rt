@@ -6,8 +6,7 @@ ghost use Rattle.session.specs.near.Answering.{is_memory};
 ghost use Rattle.session.specs.near.Carried.{IsLoss, held_trade, held_trades, loss};
 ghost use Rattle.binding.specs.Binding.{is_unknown};
 ghost use Rattle.span_tables.specs.Holdings.{fits};
-ghost use Rattle.span_tables.specs.declared.limits.TheConstants.{MAX_NET};
-ghost use Rattle.std.specs.Prelude.{◌≡◌, ◌<◌, ◌≤◌, ⊤, IfErr, IfOk, MatchBool, None, OnOk, Some, find, length, nat_abs, option_map, true};
+ghost use Rattle.std.specs.Prelude.{◌≡◌, ◌<◌, ⊤, IfErr, IfOk, MatchBool, None, OnOk, Some, find, length, option_map, true};
 ghost use Rattle.worker_pool.specs.Batches.{FitsSet};
 
 use crate::positions::contract_of;
@@ -23,13 +22,12 @@ use whatif::portfolios::copied;
 
 // A holding as a trade.
 fn held_trade(contracts: &[Contract], holding: &Holding) -> Trade
-    requires known { holding.now.contract < length contracts.now }
-    requires small { nat_abs holding.now.net ≤ MAX_NET }
+    requires { holding.now.contract < length contracts.now }
     ensures { result ≡ held_trade contracts.now holding.now }
 {
     Trade {
         contract: contract_of(contracts, holding).copied(),
-        quantity: holding.net as i32,
+        quantity: holding.net,
     }
 }
 

@@ -15,7 +15,7 @@ fn push_position(
     out: &mut Vec<u8>,
     account: &Name,
     contract: &Name,
-    quantity: i64,
+    quantity: i32,
 ) -> Result<(), AllocError>
     ensures { OnOk result (out.new.items ≡ out.old.items
         ++ position_line (record { account = account.now; contract = contract.now; quantity = quantity })) }
@@ -39,7 +39,7 @@ pub(crate) fn contract_of<'a>(contracts: &'a [Contract], holding: &Holding) -> &
     requires { holding.now.contract < length contracts.now }
     ensures { result.now ≡ contract_of contracts.now holding.now }
 {
-    &contracts[holding.contract].id
+    &contracts[holding.contract as usize].id
 }
 
 // Appends the record of a holding.

@@ -16,6 +16,13 @@ in_parts old word ids fields =
       grouped : (i f e : List ℕ) → ((old ++ word ++ i) ++ f) ++ e ≡ old ++ (word ++ ((i ++ f) ++ e))
       grouped i f e = simp append_assoc refl
 
+-- a field, more fields and a line feed, written one after another
+pub rest_in_parts : (old id : List ℕ) (fields : List (List ℕ))
+    → ((old ++ field id) ++ flat_map field fields) ++ 10 ∷ [] ≡ old ++ (flat_map field (id ∷ fields) ++ 10 ∷ [])
+rest_in_parts old id fields = grouped (field id) (flat_map field fields) (10 ∷ []) where
+  grouped : (i f e : List ℕ) → ((old ++ i) ++ f) ++ e ≡ old ++ ((i ++ f) ++ e)
+  grouped i f e = simp append_assoc refl
+
 -- fields joined by commas are the first field, followed by each other field with a comma in front of it
 pub joined : (first : List ℕ) (rest : List (List ℕ)) → join_with_byte 44 (first ∷ rest) ≡ first ++ flat_map field rest
 joined first [] = sym (append-nil first)

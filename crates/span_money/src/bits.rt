@@ -1,10 +1,20 @@
 //! Words of 64 bits as sets of numbers: a number is in the set if its bit is 1.
-ghost use Rattle.std.specs.Prelude.{◌≡◌, ◌<◌, ◌≤◌, IfSome, IfNone};
+ghost use Rattle.std.specs.Int.{bit_at};
+ghost use Rattle.std.specs.Prelude.{◌≡◌, ◌==◌, ◌<◌, ◌≤◌, IfSome, IfNone};
 ghost use Rattle.span_money.specs.near.Bits.{IsWithout, TakesFirst};
 ghost use Rattle.span_money.specs.declared.bits.TheConstants.{BITS};
 
 /// The number of bits of a word.
 pub const BITS: usize = u64::BITS as usize;
+
+/// Returns whether a number is in a set.
+#[inline(always)]
+pub fn has(word: u64, number: usize) -> bool
+    requires { number < BITS }
+    ensures { result ≡ (bit_at word number == 1) }
+{
+    word >> number & 1 == 1
+}
 
 /// Returns the set without a number.
 #[inline(always)]

@@ -1,8 +1,6 @@
 //! Exact division, which rounds every figure (docs/METHOD.md, Rounding).
-ghost use Rattle.std.specs.Prelude.{◌≡◌, ◌*◌, ◌/◌, ◌<◌, ◌≤◌, ◌+◌};
+ghost use Rattle.std.specs.Prelude.{◌≡◌, ◌/◌, ◌<◌};
 ghost use Rattle.std.specs.Int.{div_ceil};
-
-use crate::amounts::Ratio;
 
 /// Returns the quotient, rounded down.
 pub fn floor_div(n: u128, d: u128) -> u128
@@ -22,14 +20,4 @@ pub fn ceil_div(n: u128, d: u128) -> u128
         (Ok(n), Ok(d)) => u128::from(n.div_ceil(d)),
         _ => n.div_ceil(d),
     }
-}
-
-/// Returns the greatest n such that `n * ratio` is at most `rest` (in units of 10^-8). It is the number of spreads that
-/// fit, in 10^-4 spreads.
-pub fn greatest_fit(rest: u64, ratio: Ratio) -> u64
-    requires { 0 < ratio }
-    ensures value { result ≡ rest / ratio }
-    ensures fits { result * ratio ≤ rest }
-{
-    rest / u64::from(ratio.get())
 }

@@ -1,6 +1,6 @@
 //! Lines of fields: a word, its fields with a comma in front of each, and a line feed (docs/FORMATS.md, Statement).
 ghost use Rattle.std.specs.Fmt.{signed_decimal};
-ghost use Rattle.std.specs.Prelude.{◌≡◌, ◌++◌, ◌≤◌, OnOk, flat_map, map};
+ghost use Rattle.std.specs.Prelude.{◌≡◌, ◌++◌, ◌∷◌, ◌≤◌, [], OnOk, flat_map, map};
 ghost use Rattle.span_money.specs.ExactDecimals.{exact_decimal};
 ghost use Rattle.span_money.specs.LineFields.{field, line};
 ghost use Rattle.span_money.specs.near.Fields.{field_text};
@@ -102,6 +102,21 @@ pub fn push_line(
 {
     push_start(out, word, ids)?;
     push_fields(out, fields)?;
+    out.push(b'\n')?;
+    Ok(())
+}
+
+/// Appends the rest of a line after its start: the bytes of a field, and whole numbers.
+#[tactic(auto, using(crate::proofs::LinePartLemmas::rest_in_parts))]
+pub fn push_rest_of_numbers(
+    out: &mut Vec<u8>,
+    id: &[u8],
+    numbers: &[i128],
+) -> Result<(), AllocError>
+    ensures { OnOk result (out.new.items ≡ out.old.items ++ (flat_map field (id.now ∷ map signed_decimal numbers.now) ++ 10 ∷ [])) }
+{
+    push_field(out, id)?;
+    push_numbers(out, numbers)?;
     out.push(b'\n')?;
     Ok(())
 }

@@ -4,8 +4,8 @@ pub mod NetLaws
 pub mod OrderLaws
 pub mod SpreadLaws
 pub mod SlotLemmas
-pub mod TierLemmas
-mod LegSlots
+pub mod LegIndexLemmas
+pub mod WordFolds
 pub mod Places
 pub mod TermLemmas
 pub mod HeldLemmas

@@ -1,10 +1,9 @@
 -- The holdings of a commodity among an account's holdings, and runs of holdings of one commodity.
-use Rattle.std.proofs.Common.{◌≡◌, ◌≢◌, ℕ, suc, zero, ◌+◌, ◌-◌, ◌<◌, ◌≤◌, Bool, true, false, cond, eqb, List, [], ◌∷◌}
+use Rattle.std.proofs.Common.{◌≡◌, ◌≢◌, ℕ, ◌+◌, ◌<◌, ◌≤◌, Bool, true, false, cond, eqb, List, [], ◌∷◌}
 use Rattle.std.proofs.Common.{◌++◌, length, length-append, length-drop, drop, filter, get_or, take, refl, sym, ap, ◌∙◌}
 use Rattle.std.proofs.Common.{subst, arith, inl, inr}
 use Rattle.std.specs.Prelude.{All, bytes_eq}
 use Rattle.std.specs.List.{AllWithin, slice_range}
-use Rattle.std.specs.List.Sorted.{IsNonDecreasingBy}
 use Rattle.std.proofs.lemmas.Bool.{cases_eq, cases_lt}
 use Rattle.std.proofs.lemmas.Bool.Decides.{nat_tests}
 use Rattle.std.proofs.lemmas.List.{append-nil, get_or-append-add, get_or_append_left, get_or-drop, get_or_default, take_more}
@@ -85,7 +84,7 @@ module _ (t : AcceptedTables) (limits : IsWithinLimits t) where
       filter_alike (λ h. bytes_eq (commodity_held t.contracts h) (commodity_id t c)) b hs
       (λ k d lt. is_of (get_or hs k d) c (known k d lt) below ∙ all k d lt)
 
-  -- the holdings of a commodity are those of its number
+  -- the holdings of a commodity are the holdings with its number
   pub by_number : (c : ℕ) (hs : List Holding) → c < length t.commodities → All (λ h. h.contract < length t.contracts) hs
       → holdings_in t.contracts hs (commodity_id t c) ≡ filter (λ h. eqb (number_held t h) c) hs
   by_number c hs below known =
@@ -106,7 +105,7 @@ module _ (t : AcceptedTables) (limits : IsWithinLimits t) where
         → holdings_in t.contracts holdings (commodity_id t c) ≡ []
     none_left next left c le lt = sym (left.same c le lt)
 
-    -- a run of holdings of commodity n, before holdings of which the first is of another commodity
+    -- a run of holdings of commodity n, before holdings whose first is of another commodity
     module _ (next n : ℕ) (x : Holding) (xs more : List Holding) (left : AreLeft t holdings next ((x ∷ xs) ++ more))
         (of : All (λ h. number_held t h ≡ n) (x ∷ xs)) (ends : (d : Holding) → 0 < length more → number_held t (get_or more 0 d) ≢ n)
         (below : n < length t.commodities) where

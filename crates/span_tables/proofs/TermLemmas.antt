@@ -1,6 +1,6 @@
 -- The terms of contracts have the fields of the contracts' records.
-use Rattle.std.proofs.Common.{◌≡◌, ℕ, ℤ, suc, zero, ◌<◌, ◌*◌, ◌≤◌, pos, nat_abs, List, [], ◌∷◌}
-use Rattle.std.proofs.Common.{length, map, get_or, refl, sym, ap, ◌∙◌, subst, arith}
+use Rattle.std.proofs.Common.{◌≡◌, ℕ, suc, zero, ◌<◌, ◌*◌, ◌≤◌, pos, nat_abs, List, [], ◌∷◌}
+use Rattle.std.proofs.Common.{length, map, get_or, refl, ap, ◌∙◌, arith}
 use Rattle.std.specs.Prelude.{◌*ℤ◌, All, IfSome, option_map, slice_get, unwrap_or}
 use Rattle.std.proofs.Math.Nat.{mul-le-mul}
 use Rattle.std.proofs.lemmas.Int.{unsigned_abs-mul}
@@ -43,7 +43,7 @@ module _ (xs : List Contract) (ts : List Terms) (are : AreTerms xs ts) where
   pub as_many : length ts ≡ length xs
   as_many = ap length are.are ∙ length-map xs (terms_of are.commodities are.tiers)
 
-  -- the terms at an index are those of the contract at that index
+  -- the terms at an index are the terms of the contract at that index
   pub terms_told : (k : ℕ) (t : Terms) → k < length xs → t ≡ get_or ts k t → IfSome (slice_get xs k) (λ x. AreTermsOf x t)
   terms_told k t lt is = fields_at are.commodities are.tiers xs k t lt (is ∙ ap (λ (us : List Terms). get_or us k t) are.are)
 

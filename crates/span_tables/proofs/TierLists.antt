@@ -19,7 +19,6 @@ use Rattle.span_tables.specs.declared.records.Tier.{Tier}
 use Rattle.span_tables.specs.declared.legs.MonthLeg.{MonthLeg}
 use Rattle.span_tables.proofs.KeptRules.{and_true, none_any, of_kind}
 use Rattle.span_tables.proofs.Places.{or_false}
-use Rattle.span_tables.proofs.TierLemmas.{or_true}
 
 -- ---- for the users of the tiers of a commodity
 
@@ -108,6 +107,10 @@ module _ (id : List ℕ) where
       apart_if (IsOfId t) t tiers refl h.0 (apart_of tiers h.1)
 
 -- ---- each leg has the months of a tier
+
+or_true : (a b : Bool) → b ≡ true → (a || b) ≡ true
+or_true true b e = refl
+or_true false b e = e
 
 same_months : (t : Tier) → ((t.first == t.first) && (t.last == t.last)) ≡ true
 same_months t = grind (arith, nat_tests)

@@ -2,7 +2,7 @@
 pub mod ByKind
 pub mod Gathered
 pub mod Kept
-pub mod Legs
+pub mod LegIndex
 pub mod Limits
 pub mod NamePlaces
 pub mod Orders
@@ -10,4 +10,3 @@ pub mod Positions
 pub mod Runs
 pub mod Samples
 pub mod Terms
-pub mod Tiers

@@ -146,26 +146,26 @@ impl Contracts {
     }
 
     /// Returns the record of the contract with a number.
-    pub fn at(&self, contract: usize) -> &Contract
+    pub fn at(&self, contract: u32) -> &Contract
         requires { contract < length self.now.records }
         ensures { IfSome (slice_get self.now.records contract) (λ x. result.now ≡ x) }
     {
-        &self.records[contract]
+        &self.records[contract as usize]
     }
 
     /// Returns the terms of the contract with a number.
-    pub fn terms(&self, contract: usize) -> &Terms
+    pub fn terms(&self, contract: u32) -> &Terms
         requires { contract < length self.now.records }
         ensures { IfSome (slice_get self.now.records contract) (λ x. AreTermsOf x result.now) }
     {
-        &self.terms[contract]
+        &self.terms[contract as usize]
     }
 
     /// Returns the commodity number of the contract with a number, or 0 if there is no such contract.
-    pub fn commodity_of(&self, contract: usize) -> usize
+    pub fn commodity_of(&self, contract: u32) -> usize
         ensures { result ≡ number_at self.now.terms contract }
     {
-        match self.terms.get(contract) {
+        match self.terms.get(contract as usize) {
             Some(terms) => usize::from(terms.commodity),
             None => 0,
         }

@@ -87,7 +87,7 @@ impl<'a> HeldRun<'a> {
         ensures in_range { nat_abs result ≤ MAX_NET }
     {
         let holdings = self.holdings;
-        holdings[place].net
+        i64::from(holdings[place].net)
     }
 }
 

@@ -6,13 +6,13 @@ ghost use Rattle.span_tables.specs.Laws.{FitsRooms, HaveRatios, IsRisingBy};
 ghost use Rattle.span_tables.specs.Names.{distinct, has_repeat, is_among};
 ghost use Rattle.span_tables.specs.Net.{held_of, holdings_of, net_of};
 ghost use Rattle.span_tables.specs.Sides.{Room, spreads_formed};
-ghost use Rattle.span_tables.specs.Slots.{IsMarked, has_all, with_slot};
+ghost use Rattle.span_tables.specs.Slots.{IsMarked, with_slot};
 ghost use Rattle.span_tables.specs.Tables.{rising_by};
 ghost use Rattle.span_tables.specs.declared.records.Contract.{Contract};
 ghost use Rattle.span_tables.specs.declared.records.InterRecord.{InterRecord};
 ghost use Rattle.span_tables.specs.declared.records.IntraRecord.{IntraRecord};
 ghost use Rattle.span_tables.specs.declared.records.PositionRecord.{PositionRecord};
-ghost use Rattle.span_tables.specs.declared.slots.TheConstants.{SLOTS};
+ghost use Rattle.span_money.specs.declared.bits.TheConstants.{BITS};
 
 /// A sum over the held contracts of a commodity equals the sum over all its contracts: a contract that is not held adds
 /// nothing.
@@ -53,11 +53,10 @@ pub fn distinct_names_stand_once()
 {}
 
 /// A number that was added to slots stays marked when others are added. Adding a number of another slot does not mark
-/// it. Slots that have all slots of another word have each of its numbers.
+/// it.
 pub fn slots_keep_their_numbers()
     ensures added { (word number : ℕ) → IsMarked (with_slot word number) number }
     ensures kept { (word number other : ℕ) → IsMarked word other → IsMarked (with_slot word number) other }
-    ensures alone { (word number other : ℕ) → other % SLOTS ≢ number % SLOTS
+    ensures alone { (word number other : ℕ) → other % BITS ≢ number % BITS
         → IsMarked (with_slot word number) other → IsMarked word other }
-    ensures all { (word others number : ℕ) → has_all word others ≡ true → IsMarked others number → IsMarked word number }
 {}

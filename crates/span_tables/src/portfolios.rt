@@ -10,8 +10,8 @@ use std::marker::Model;
 /// negative.
 #[derive(Clone, Copy, Debug)]
 pub struct Holding {
-    pub contract: usize,
-    pub net: i64,
+    pub contract: u32,
+    pub net: i32,
 }
 
 /// An account, and its net quantity in each contract that it holds, by rising contract number.
@@ -79,7 +79,9 @@ impl Portfolio {
 fn fits_within(holdings: &[Holding], contracts: usize) -> bool
     ensures { result ≡ fits contracts holdings.now }
 {
-    holdings.iter().all(|holding| holding.contract < contracts)
+    holdings
+        .iter()
+        .all(|holding| (holding.contract as usize) < contracts)
 }
 
 /// The portfolios of a position file, in the order in which its accounts first appear.

@@ -1,16 +1,12 @@
 //! The records of parameter, position and order files (docs/FORMATS.md), and the spreads that the tables make of them,
 //! as plain data in the units of docs/METHOD.md, "Units".
-ghost use Rattle.std.specs.Prelude.{◌≡◌};
-ghost use Rattle.span_tables.specs.near.Legs.{slots_on};
-
 use crate::legs::MonthLeg;
 use crate::limits::SCENARIOS;
 use crate::name::Name;
-use crate::sides::{Direction, Side, market_side};
-use crate::slots::{OpenSides, Slots};
-use crate::tier_slots::{may_have, months_on};
+use crate::sides::Side;
 use arrayvec::ArrayVec;
 use span_money::amounts::{Delta, Ratio, Scale};
+use span_money::divisor::Divisor;
 use std::marker::Model;
 
 /// A future, a call or a put.
@@ -226,39 +222,27 @@ pub struct OrderRecord {
 #[derive(Drop)]
 pub struct Intra {
     legs: ArrayVec<MonthLeg, 4>,
-    // The months of the tier of the first leg on side A, and of the first leg on side B.
-    a: Slots,
-    b: Slots,
     rate: u32,
     priority: u32,
 }
 
 impl Model for Intra {
     ghost use Rattle.span_tables.specs.Spreads.{IntraSpread};
-    ghost use Rattle.span_tables.specs.near.Tiers.{AreOfTiers};
 
     ghost Value = { IntraSpread };
 
     ghost view = { λ s. record { priority = s.priority; rate = s.rate; legs = s.legs.items } };
-
-    ghost invariant = { λ s. AreOfTiers s.a s.b s.legs.items };
 }
 
 impl Intra {
-    ghost use Rattle.std.specs.Prelude.{◌≡◌, All, true};
-    ghost use Rattle.span_tables.specs.Sides.{market_side};
-    ghost use Rattle.span_tables.specs.Slots.{IsTierMarked, numbers_on};
+    ghost use Rattle.std.specs.Prelude.{◌≡◌};
 
     /// Returns a spread with this priority, this rate in minor units a spread, and these legs.
     pub fn new(priority: u32, rate: u32, legs: ArrayVec<MonthLeg, 4>) -> Intra
         ensures { result ≡ record { priority = priority; rate = rate; legs = legs.items } }
     {
-        let a = months_on(&legs, Side::A);
-        let b = months_on(&legs, Side::B);
         Intra {
             legs,
-            a,
-            b,
             rate,
             priority,
         }
@@ -284,18 +268,6 @@ impl Intra {
     {
         &self.legs
     }
-
-    /// Returns whether the tier of each leg may have a remaining delta on the side of the market that the leg needs in
-    /// a direction. It checks only the first leg on each side.
-    ///
-    /// If it returns `false`, the tier of a leg has no such remaining delta.
-    #[inline(always)]
-    pub fn may_form(&self, direction: Direction, sides: &OpenSides) -> bool
-        ensures { All (λ leg. IsTierMarked (numbers_on (market_side direction leg.side) sides.now) leg) self.now.legs → result ≡ true }
-    {
-        may_have(sides.on(market_side(direction, Side::A)), self.a)
-            && may_have(sides.on(market_side(direction, Side::B)), self.b)
-    }
 }
 
 /// A leg of an accepted intercommodity spread: its commodity number from 0, a side and a ratio.
@@ -303,46 +275,34 @@ impl Intra {
 pub struct CommodityLeg {
     pub commodity: usize,
     pub side: Side,
-    pub ratio: Ratio,
+    pub ratio: Divisor,
 }
 
 /// An accepted intercommodity spread: its priority, its credit rate in basis points, and its legs.
 #[derive(Drop)]
 pub struct Inter {
     legs: ArrayVec<CommodityLeg, 4>,
-    // The commodities of the legs on side A, and of the legs on side B.
-    a: Slots,
-    b: Slots,
     basis_points: u32,
     priority: u32,
 }
 
 impl Model for Inter {
     ghost use Rattle.span_tables.specs.Spreads.{InterSpread};
-    ghost use Rattle.span_tables.specs.near.Legs.{AreOfLegs};
 
     ghost Value = { InterSpread };
 
     ghost view = { λ s. record { priority = s.priority; basis_points = s.basis_points; legs = s.legs.items } };
-
-    ghost invariant = { λ s. AreOfLegs s.a s.b s.legs.items };
 }
 
 impl Inter {
-    ghost use Rattle.std.specs.Prelude.{◌≡◌, All, true};
-    ghost use Rattle.span_tables.specs.Sides.{market_side};
-    ghost use Rattle.span_tables.specs.Slots.{IsMarked, numbers_on};
+    ghost use Rattle.std.specs.Prelude.{◌≡◌};
 
     /// Returns a spread with this priority, this credit rate in basis points, and these legs.
     pub fn new(priority: u32, basis_points: u32, legs: ArrayVec<CommodityLeg, 4>) -> Inter
         ensures { result ≡ record { priority = priority; basis_points = basis_points; legs = legs.items } }
     {
-        let a = commodities_on(&legs, Side::A);
-        let b = commodities_on(&legs, Side::B);
         Inter {
             legs,
-            a,
-            b,
             basis_points,
             priority,
         }
@@ -368,29 +328,4 @@ impl Inter {
     {
         self.legs.as_slice()
     }
-
-    /// Returns whether the commodity of each leg may have a remaining delta on the side of the market that the leg
-    /// needs in a direction.
-    ///
-    /// If it returns `false`, the commodity of a leg has no such remaining delta.
-    pub fn may_form(&self, direction: Direction, sides: &OpenSides) -> bool
-        ensures { All (λ leg. IsMarked (numbers_on (market_side direction leg.side) sides.now) leg.commodity) self.now.legs
-            → result ≡ true }
-    {
-        sides.on(market_side(direction, Side::A)).has_all(self.a)
-            && sides.on(market_side(direction, Side::B)).has_all(self.b)
-    }
-}
-
-// Returns the commodities of the legs on a side.
-fn commodities_on(legs: &[CommodityLeg], side: Side) -> Slots
-    ensures { result ≡ slots_on side legs.now }
-{
-    let mut slots = Slots::none();
-    for leg in legs {
-        if leg.side == side {
-            slots = slots.with(leg.commodity);
-        }
-    }
-    slots
 }

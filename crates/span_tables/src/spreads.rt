@@ -13,6 +13,7 @@ use crate::records::{
     Commodity, CommodityLeg, Inter, InterLeg, InterRecord, Intra, IntraLeg, IntraRecord, Tier,
 };
 use arrayvec::ArrayVec;
+use span_money::divisor::Divisor;
 use std::alloc::{AllocError, Global};
 
 // Returns the tier of a commodity with a number, if there is one.
@@ -31,13 +32,13 @@ fn month_leg(tiers: &[Tier], commodity: &Name, leg: &IntraLeg) -> MonthLeg
             first: tier.first,
             last: tier.last,
             side: leg.side,
-            ratio: leg.ratio,
+            ratio: Divisor::new(leg.ratio),
         },
         None => MonthLeg {
             first: 1,
             last: 0,
             side: leg.side,
-            ratio: leg.ratio,
+            ratio: Divisor::new(leg.ratio),
         },
     }
 }
@@ -86,7 +87,7 @@ fn commodity_leg(commodities: &[Commodity], leg: &InterLeg) -> CommodityLeg
     CommodityLeg {
         commodity: number_of(commodities, &leg.commodity),
         side: leg.side,
-        ratio: leg.ratio,
+        ratio: Divisor::new(leg.ratio),
     }
 }
 

@@ -208,7 +208,7 @@ impl Tables {
     }
 
     /// Returns the commodity number of the contract with a number, or 0 if there is no such contract.
-    pub fn commodity_of(&self, contract: usize) -> usize
+    pub fn commodity_of(&self, contract: u32) -> usize
         ensures value { result ≡ number_of self.now contract }
         ensures known { contract < length self.now.contracts → result < length self.now.commodities }
     {

@@ -4,13 +4,11 @@ pub mod DeltaLemmas
 pub mod ForwardLemmas
 pub mod GatherLemmas
 pub mod UseLemmas
-pub mod PlaceLemmas
-mod KeptPlaces
+pub mod MonthPlaces
 pub mod SizeLemmas
 pub mod SpreadLemmas
 pub mod FallLemmas
 pub mod ClosedLemmas
-mod SpotLemmas
 pub mod BesideLemmas
 pub mod ApartLaws
 pub mod SpreadBounds
@@ -19,4 +17,5 @@ pub mod TierSumLemmas
 pub mod TierFormLemmas
 pub mod TierStartLemmas
 pub mod TierNumberLemmas
+pub mod LeftOutLemmas
 pub mod SetPlanLemmas

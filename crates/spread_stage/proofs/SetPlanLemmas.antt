@@ -1,7 +1,6 @@
 -- The plans of the commodities of a parameter set, one after the other.
 use Rattle.std.proofs.Common.{◌≡◌, ℕ, ◌+◌, ◌<◌, ◌≤◌, ◌==◌, Bool, true, false, List, [], ◌∷◌, ◌++◌}
-use Rattle.std.proofs.Common.{refl, sym, ap, ◌∙◌, subst, arith, get_or, length, map}
-use Rattle.std.specs.Prelude.{All}
+use Rattle.std.proofs.Common.{refl, sym, ap, ◌∙◌, subst, arith, get_or, length}
 use Rattle.std.proofs.lemmas.Bool.Decides.{nat_tests}
 use Rattle.std.proofs.lemmas.List.{get_or_append_left, get_or_push, length-append}
 use Rattle.span_tables.specs.Names.{has_repeat}
@@ -11,12 +10,12 @@ use Rattle.span_tables.specs.declared.limits.TheConstants.{MAX_TIERS}
 use Rattle.span_tables.specs.declared.records.Intra.{Intra}
 use Rattle.span_tables.specs.declared.records.Tier.{Tier}
 use Rattle.span_tables.proofs.TierLists.{tiers_disjoint}
-use Rattle.spread_stage.specs.near.SetPlans.{IsPlan}
-use Rattle.spread_stage.specs.near.TierPlans.{AreKnown, intra_of, no_tier}
+use Rattle.spread_stage.specs.near.SetPlans.{IsPlan, IsPlanOf}
+use Rattle.spread_stage.specs.near.TierPlans.{no_tier}
 use Rattle.spread_stage.specs.near.TierSums.{AreTiers}
 use Rattle.spread_stage.specs.declared.tier_plans.TierPlan.{TierPlan}
 
--- tiers within their limit of which no two share a month
+-- tiers within their limit, no two of which share a month
 pub tiers_are : (tiers : List Tier) → length tiers ≤ MAX_TIERS → has_repeat share_month tiers ≡ false → AreTiers tiers
 tiers_are tiers few apart = record {
   few = few;
@@ -30,16 +29,11 @@ pub record AreFirstPlans (t : AcceptedTables) (count : ℕ) (plans : List TierPl
   pub every : length plans ≡ count
   pub each : (c : ℕ) → c < count → (d : TierPlan) → IsPlan t (commodity_id t c) (get_or plans c d)
 
+-- the plan of a commodity was made from its tiers and spreads
 pub plan_made : (t : AcceptedTables) (id : List ℕ) (plan : TierPlan) (tiers : List Tier) (intras : List Intra)
-    → tiers ≡ tiers_of t id → intras ≡ intras_of t id → length tiers ≤ MAX_TIERS → has_repeat share_month tiers ≡ false
-    → plan.tiers.items ≡ tiers → map (intra_of tiers) plan.spreads.items ≡ intras → All (AreKnown tiers) plan.spreads.items
-    → IsPlan t id plan
-plan_made t id plan tiers intras are is few apart same spreads known = record {
-  tiers_are = same ∙ are;
-  tiers = subst AreTiers (sym same) (tiers_are tiers few apart);
-  spreads_are = ap (λ ts. map (intra_of ts) plan.spreads.items) same ∙ spreads ∙ is;
-  known = subst (λ ts. All (AreKnown ts) plan.spreads.items) (sym same) known;
-}
+    → tiers ≡ tiers_of t id → intras ≡ intras_of t id → IsPlanOf tiers intras plan → IsPlan t id plan
+plan_made t id plan tiers intras are is made =
+    subst (λ xs. IsPlanOf (tiers_of t id) xs plan) is (subst (λ ts. IsPlanOf ts intras plan) are made)
 
 plan_at : (t : AcceptedTables) (count : ℕ) (plans : List TierPlan) (plan : TierPlan) (c : ℕ) (d : TierPlan) (b : Bool) → (c == count) ≡ b
     → AreFirstPlans t count plans → IsPlan t (commodity_id t count) plan → c < count + 1

@@ -1,11 +1,11 @@
 -- Sizes of sides and remaining deltas.
 use Rattle.std.proofs.Common.{◌≡◌, ℕ, ◌+◌, ◌-◌, ◌<◌, ◌≤◌, Bool, true, false, cond, List, [], ◌∷◌, refl, sym}
-use Rattle.std.proofs.Common.{ap, subst, arith, drop, filter, map, nat_abs, suc, sum_by}
-use Rattle.std.specs.Prelude.{ℤ, pos, negsuc, ◌+ℤ◌, ◌-ℤ◌, ◌==◌, nat_lt, Option, Some, find, option_map, slice_range, unwrap_or}
+use Rattle.std.proofs.Common.{ap, subst, arith, filter, map, nat_abs, suc, sum_by}
+use Rattle.std.specs.Prelude.{ℤ, pos, negsuc, ◌+ℤ◌, ◌-ℤ◌, ◌==◌, nat_lt, Option, Some, find, option_map, unwrap_or}
 use Rattle.std.specs.List.{AllByRecursion}
 use Rattle.std.proofs.lemmas.Int.{ints}
 use Rattle.std.proofs.lemmas.Bool.Decides.{nat_tests}
-use Rattle.std.proofs.lemmas.List.Sums.{sum_by-cons, sum_by-take-drop}
+use Rattle.std.proofs.lemmas.List.Sums.{sum_by-cons}
 use Rattle.span_tables.specs.Sides.{part_on, less_used}
 use Rattle.span_tables.specs.declared.sides.MarketSide.{MarketSide}
 use Rattle.span_tables.specs.declared.sides.MarketSide.TheVariants.{Long, Short}
@@ -171,11 +171,3 @@ left_le (m ∷ deltas) (r ∷ rests) p h =
     ≡ nat_abs (unwrap_or (option_map (λ (x : MonthUnits). x.units) (cond (m.month == p) (Some r) g)) (pos 0)) =
     ap (λ b. nat_abs (unwrap_or (option_map (λ (x : MonthUnits). x.units) (cond b (Some r) g)) (pos 0))) test in
     omega (arith, first, same)
-
--- the months of a slice are no larger than all months
-pub slice_size : (rests : List MonthUnits) (start stop : ℕ) → total_size (slice_range rests start stop) ≤ total_size rests
-slice_size rests start stop =
-    let size : MonthUnits → ℕ = λ m. nat_abs m.units in
-    let a = sum_by-take-drop size rests start in
-    let b = sum_by-take-drop size (drop start rests) (stop - start) in
-    omega (arith, a, b)

@@ -66,10 +66,6 @@ months_are held are =
       small = omega (arith, all, few);
     }
 
--- no months
-pub no_months : AreMonths []
-no_months = record { rise = tt; small = omega arith }
-
 -- the size of the net delta is at most the total size of the months
 net_size : (months : List MonthUnits) → nat_abs (net_delta months) ≤ total_size months
 net_size [] = omega arith

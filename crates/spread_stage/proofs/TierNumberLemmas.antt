@@ -1,16 +1,16 @@
 -- The number of the tier that a month is in.
-use Rattle.std.proofs.Common.{◌≡◌, ◌≢◌, ℕ, suc, ◌+◌, ◌<◌, ◌≤◌, ◌==◌, Bool, true, false, cond, not, List, [], ◌∷◌, ◌++◌}
-use Rattle.std.proofs.Common.{refl, sym, ap, ◌∙◌, subst, arith, get_or, length, take}
+use Rattle.std.proofs.Common.{◌≡◌, ◌≢◌, ℕ, suc, ◌+◌, ◌<◌, ◌≤◌, ◌==◌, Bool, true, false, cond, not, List, [], ◌∷◌}
+use Rattle.std.proofs.Common.{refl, sym, ap, ◌∙◌, subst, arith, get_or, length}
 use Rattle.std.specs.Prelude.{nat_lt, pos}
 use Rattle.std.specs.List.{position_or_len}
 use Rattle.std.proofs.lemmas.Bool.Decides.{nat_tests}
-use Rattle.std.proofs.lemmas.List.{get_or-take, get_or_append_left, get_or_default, get_or_push, length-append, length-take}
+use Rattle.std.proofs.lemmas.List.{get_or_default}
 use Rattle.std.proofs.lemmas.List.Sums.{position_or_len_is, prefix_len_passes}
 use Rattle.span_tables.specs.declared.records.Tier.{Tier}
 use Rattle.spread_stage.specs.Spreads.{is_in_tier}
 use Rattle.spread_stage.specs.near.TierPlans.{no_tier, tier_at}
 use Rattle.span_tables.specs.near.Terms.{has_month}
-use Rattle.spread_stage.specs.near.TierSums.{AreNumbers, AreTiers, months_of}
+use Rattle.spread_stage.specs.near.TierSums.{AreTiers, months_of}
 use Rattle.spread_stage.specs.declared.months.MonthUnits.{MonthUnits}
 use Rattle.spread_stage.proofs.TierSumLemmas.{outside}
 
@@ -77,39 +77,3 @@ only_tier tiers are month number tier lt at has =
     sym (position_or_len_is (has_month month) tiers number no_tier (omega (arith, lt))
     (λ k below. outside (has_month month (tier_at tiers k))
     (λ passes. are.apart k number (omega (arith, below, lt)) lt (λ e. omega (arith, e, below)) m passes here)) (λ within. here))
-
-module _ (tiers : List Tier) (are : AreTiers tiers) (months : List MonthUnits) (numbers : List ℕ) (i number : ℕ) (lt : i < length months)
-    (m : MonthUnits) (at : m ≡ get_or months i m) (is : number ≡ position_or_len (has_month m.month) tiers)
-    (so_far : AreNumbers tiers (take i months) numbers) where
-  long : length numbers ≡ i
-  long = let e = so_far.long in let n = length-take i months in omega (arith, e, n, lt)
-
-  number_at : (k : ℕ) (b : Bool) → (k == i) ≡ b → k < i + 1 → (x : MonthUnits) (d : ℕ) (t : ℕ) → t < length tiers
-      → is_in_tier (months_of (tier_at tiers t)) (get_or (take (i + 1) months) k x) ≡ (get_or (numbers ++ number ∷ []) k d == t)
-  number_at k true e below x d t in_range =
-      let same : k ≡ i = grind (arith, nat_tests, e) in
-      let month : get_or (take (i + 1) months) k x ≡ m =
-      ap (λ n. get_or (take (i + 1) months) n x) same ∙ get_or-take (i + 1) months i x (omega arith)
-      ∙ get_or_default months i x m lt ∙ sym at in
-      let last : get_or (numbers ++ number ∷ []) k d ≡ number =
-      ap (λ n. get_or (numbers ++ number ∷ []) n d) same ∙ get_or_push numbers number d i long in
-      ap (is_in_tier (months_of (tier_at tiers t))) month ∙ number_right tiers are m number is t in_range
-      ∙ ap (λ n. n == t) (sym last)
-  number_at k false e below x d t in_range =
-      let lt_i : k < i = grind (arith, nat_tests, e, below) in
-      let month : get_or (take (i + 1) months) k x ≡ get_or (take i months) k x =
-      get_or-take (i + 1) months k x (omega (arith, lt_i)) ∙ sym (get_or-take i months k x lt_i) in
-      let old : get_or (numbers ++ number ∷ []) k d ≡ get_or numbers k d =
-      get_or_append_left numbers (number ∷ []) d k (omega (arith, lt_i, long)) in
-      ap (is_in_tier (months_of (tier_at tiers t))) month
-      ∙ so_far.each k (let n = length-take i months in omega (arith, n, lt, lt_i)) x d t in_range ∙ ap (λ n. n == t) (sym old)
-
-  -- one more month has its number
-  pub numbers_more : (now : List ℕ) → now ≡ numbers ++ number ∷ [] → AreNumbers tiers (take (i + 1) months) now
-  numbers_more now step = record {
-    long = (let n = length-take (i + 1) months in let a = ap length step in let b = length-append numbers (number ∷ []) in
-        omega (arith, n, a, b, lt, long));
-    each = λ k below x d t in_range.
-        number_at k (k == i) refl (let n = length-take (i + 1) months in omega (arith, n, lt, below)) x d t in_range
-        ∙ ap (λ ns. get_or ns k d == t) (sym step);
-  }

@@ -1,29 +1,30 @@
 -- The sums of tiers stay right while spreads use months.
-use Rattle.std.proofs.Common.{◌≡◌, ◌≢◌, ℕ, ◌-◌, ◌%◌, ◌<◌, ◌≤◌, ◌==◌, Bool, true, false, cond, List}
-use Rattle.std.proofs.Common.{refl, sym, ap, ◌∙◌, subst, arith, get_or, set, length, inl, inr}
-use Rattle.std.specs.Prelude.{ℤ, ◌⊎◌}
+use Rattle.std.proofs.Common.{◌≡◌, ◌≢◌, ℕ, ◌+◌, ◌-◌, ◌%◌, ◌<◌, ◌≤◌, ◌==◌, ◌&&◌, Bool, true, false, cond, List}
+use Rattle.std.proofs.Common.{refl, sym, ap, ◌∙◌, subst, arith, get_or, set, length, inl, inr, filter, sum_by}
+use Rattle.std.specs.Int.{bit_at}
+use Rattle.std.specs.Prelude.{ℤ, ◌⊎◌, nat_le, nat_lt}
+use Rattle.std.proofs.lemmas.Bool.{cases_eq}
 use Rattle.std.proofs.lemmas.Bool.Decides.{nat_tests}
-use Rattle.std.proofs.lemmas.List.{get_or-set_other, get_or-set_same, length-set}
+use Rattle.std.proofs.lemmas.List.{get_or-set_other, get_or-set_same}
+use Rattle.span_money.specs.declared.bits.TheConstants.{BITS}
 use Rattle.span_tables.specs.Sides.{part_on, less_used}
-use Rattle.span_tables.specs.Slots.{IsMarked}
+use Rattle.span_tables.specs.Slots.{numbers_on}
 use Rattle.span_tables.specs.declared.legs.MonthLeg.{MonthLeg}
+use Rattle.span_tables.specs.declared.limits.TheConstants.{MAX_TIERS}
 use Rattle.span_tables.specs.declared.records.Tier.{Tier}
 use Rattle.span_tables.specs.declared.sides.MarketSide.{MarketSide}
 use Rattle.span_tables.specs.declared.sides.MarketSide.TheVariants.{Long, Short}
-use Rattle.spread_stage.specs.Months.{MonthsRise, Shrinks}
+use Rattle.spread_stage.specs.Months.{MonthsRise}
 use Rattle.spread_stage.specs.Spreads.{is_in_tier, rests_after_leg, tier_side, used_of_month}
-use Rattle.spread_stage.specs.near.Places.{IsTierAt}
-use Rattle.spread_stage.specs.near.TierPlans.{tier_at}
-use Rattle.spread_stage.specs.near.TierSides.{side_number}
-use Rattle.spread_stage.specs.near.TierSums.{AreApart, AreSums, IsSum, IsTierSum, months_of, no_sum, sum_at, sum_on}
+use Rattle.spread_stage.specs.near.TierPlans.{IsKnown, tier_at}
+use Rattle.spread_stage.specs.near.TierSums.{AreSums, AreTiers, IsChanged, months_of, no_sum, sum_of, sum_on}
 use Rattle.spread_stage.specs.declared.months.MonthUnits.{MonthUnits}
+use Rattle.spread_stage.specs.declared.tier_plans.TierLeg.{TierLeg}
 use Rattle.spread_stage.specs.declared.tier_sums.TierSum.{TierSum}
 use Rattle.spread_stage.specs.declared.tier_sums.TierSums.{TierSums}
 use Rattle.spread_stage.proofs.ApartLaws.{long_kept, other_side, short_kept}
 use Rattle.spread_stage.proofs.FallLemmas.{side_left}
-use Rattle.spread_stage.proofs.KeptPlaces.{same_length, same_month, stands_too}
-use Rattle.spread_stage.proofs.SizeLemmas.{shrinks_none}
-use Rattle.spread_stage.proofs.SpreadLemmas.{leg_shrinks, none_used, within}
+use Rattle.spread_stage.proofs.SpreadLemmas.{none_used, within}
 use Rattle.spread_stage.proofs.UseLaws.{weight}
 
 -- ---- what a use leaves unchanged
@@ -69,14 +70,22 @@ other_tier_stays on side leg other needed rests apart =
     let none : used_of_month rests on other needed m ≡ 0 = rw out refl in
     ap (part_on side) (none_used on m.units (used_of_month rests on other needed m) none))
 
--- the months of a tier keep their indices
-place_stays : (on : MarketSide) (leg other : MonthLeg) (needed : ℕ) (rests : List MonthUnits) (start stop : ℕ)
-    → IsTierAt leg rests start stop → IsTierAt leg (rests_after_leg on needed rests other) start stop
-place_stays on leg other needed rests start stop at =
-    let shrinks : Shrinks rests (rests_after_leg on needed rests other) =
-    leg_shrinks on needed rests other rests (shrinks_none rests) in
-    stands_too leg leg rests (rests_after_leg on needed rests other) start stop (same_length rests _ shrinks)
-    (λ i x. let same = same_month rests _ shrinks i x in rw same refl) at
+-- ---- the tier of a leg
+
+module _ (tiers : List Tier) (leg : TierLeg) (known : IsKnown tiers leg) where
+  -- the side of a leg is the side of its tier
+  pub side_of_tier : (rests : List MonthUnits) (on : MarketSide)
+      → tier_side rests on (months_of (tier_at tiers leg.tier)) ≡ tier_side rests on leg.months
+  side_of_tier rests on =
+      let last = (tier_at tiers leg.tier).last in
+      let side : (MonthUnits → Bool) → ℕ = λ p. sum_by (λ m. part_on on m.units) (filter p rests) in
+      ap (λ f. side (λ m. nat_le f m.month && nat_le m.month last)) known.first
+      ∙ ap (λ l. side (λ m. nat_le leg.months.first m.month && nat_le m.month l)) known.last
+
+  in_tier : (m : MonthUnits) → is_in_tier leg.months m ≡ true → is_in_tier (months_of (tier_at tiers leg.tier)) m ≡ true
+  in_tier m inside =
+      ap (λ f. nat_le f m.month && nat_le m.month (tier_at tiers leg.tier).last) known.first
+      ∙ ap (λ l. nat_le leg.months.first m.month && nat_le m.month l) known.last ∙ inside
 
 -- ---- one more use
 
@@ -86,103 +95,99 @@ by_market Long Short = inr (λ e. cc)
 by_market Short Long = inr (λ e. cc)
 by_market Short Short = inl refl
 
--- different sides of tiers have different slots
-pub slots_apart : (on side : MarketSide) (k number : ℕ) → k < 32 → number < 32 → (k ≡ number → side ≡ on → ⊥)
-    → side_number side k % 64 ≢ side_number on number % 64
-slots_apart Long Long k number lt within apart e = apart (omega (arith, e, lt, within)) refl
-slots_apart Long Short k number lt within apart e = omega (arith, e, lt, within)
-slots_apart Short Long k number lt within apart e = omega (arith, e, lt, within)
-slots_apart Short Short k number lt within apart e = apart (omega (arith, e, lt, within)) refl
-
-module _ (tiers : List Tier) (rests : List MonthUnits) (s next : TierSums) (on : MarketSide) (number needed : ℕ) (sum : TierSum)
-    (rise : MonthsRise rests) (apart : AreApart tiers) (few : length tiers ≤ 32) (within_tiers : number < length tiers)
-    (are : AreSums tiers rests s) (held : IsMarked s.held number) (holds : next.held ≡ s.held)
-    (lowered : sum_on on sum ≡ sum_on on (sum_at s number) - needed)
-    (others : (side : MarketSide) → (side ≡ on → ⊥) → sum_on side sum ≡ sum_on side (sum_at s number))
-    (start : sum.start ≡ (sum_at s number).start) (stop : sum.end ≡ (sum_at s number).end)
-    (placed : next.sums ≡ set s.sums number sum)
-    (kept : (k : ℕ) → k % 64 ≢ side_number on number % 64 → IsMarked s.open_sides k → IsMarked next.open_sides k)
-    (less : (k : ℕ) → IsMarked next.open_sides k → IsMarked s.open_sides k)
-    (open_if : 0 < sum_on on sum → IsMarked next.open_sides (side_number on number)) where
-  abbrev used : MonthLeg
-  used = months_of (tier_at tiers number)
-
+module _ (tiers : List Tier) (rests : List MonthUnits) (on : MarketSide) (leg : TierLeg) (needed : ℕ) (before after : TierSums)
+    (rise : MonthsRise rests) (tiers_are : AreTiers tiers) (known : IsKnown tiers leg) (are : AreSums tiers rests before)
+    (changed : IsChanged on leg.tier (sum_of before on leg.tier - needed) before after) where
   abbrev later : List MonthUnits
-  later = rests_after_leg on needed rests used
+  later = rests_after_leg on needed rests leg.months
 
-  old : IsSum rests (tier_at tiers number) (sum_at s number)
-  old = (are.each number within_tiers).right held
+  old : (side : MarketSide) → sum_of before side leg.tier ≡ tier_side rests side leg.months
+  old side = are leg.tier known.within side ∙ side_of_tier tiers leg known rests side
 
-  new_sum : (side : MarketSide) → (side ≡ on) ⊎ (side ≡ on → ⊥) → sum_on side sum ≡ tier_side later side used
-  new_sum side (inl same) =
-      subst (λ z. sum_on z sum ≡ tier_side later z used) (sym same)
-      (lowered ∙ ap (λ n. n - needed) (old.sums on) ∙ sym (side_left on used rests needed rise))
-  new_sum side (inr other) = others side other ∙ old.sums side ∙ sym (other_side_stays on side used used needed rests other)
+  few : (k : ℕ) → k < length tiers → k < MAX_TIERS
+  few k lt = let most = tiers_are.few in omega (arith, most, lt)
 
-  new : IsSum later (tier_at tiers number) sum
-  new = record {
-    sums = λ side. new_sum side (by_market on side);
-    at = rw (start, stop) (place_stays on used used needed rests _ _ old.at);
-  }
+  same_tier : (side : MarketSide) → (side ≡ on) ⊎ (side ≡ on → ⊥) → sum_of after side leg.tier ≡ tier_side later side leg.months
+  same_tier side (inl same) =
+      subst (λ z. sum_of after z leg.tier ≡ tier_side later z leg.months) (sym same)
+      (changed.here ∙ ap (λ n. n - needed) (old on) ∙ sym (side_left on leg.months rests needed rise))
+  same_tier side (inr other) =
+      changed.others side leg.tier (few leg.tier known.within) (λ same e. other same) ∙ old side
+      ∙ sym (other_side_stays on side leg.months leg.months needed rests other)
 
-  here : sum_at next number ≡ sum
-  here =
-      ap (λ xs. get_or xs number no_sum) placed
-      ∙ get_or-set_same s.sums number sum no_sum (omega (arith, are.long, few, within_tiers))
+  each : (k : ℕ) (b : Bool) → (k == leg.tier) ≡ b → k < length tiers → (side : MarketSide)
+      → sum_of after side k ≡ tier_side later side (months_of (tier_at tiers k))
+  each k true e lt side =
+      let is : k ≡ leg.tier = grind (arith, nat_tests, e) in
+      subst (λ n. sum_of after side n ≡ tier_side later side (months_of (tier_at tiers n))) (sym is)
+      (same_tier side (by_market on side) ∙ sym (side_of_tier tiers leg known later side))
+  each k false e lt side =
+      let other : k ≢ leg.tier = grind (arith, nat_tests, e) in
+      changed.others side k (few k lt) (λ same e. other e) ∙ are k lt side
+      ∙ sym (other_tier_stays on side (months_of (tier_at tiers k)) leg.months needed rests
+      (λ m inside used. tiers_are.apart k leg.tier lt known.within other m inside (in_tier tiers leg known m used)))
 
-  there : (k : ℕ) → k ≢ number → sum_at next k ≡ sum_at s k
-  there k other = ap (λ xs. get_or xs k no_sum) placed ∙ get_or-set_other s.sums number k sum no_sum other
+  -- after a use of a side, the sums are the sums of what is left
+  pub sums_after : (now : List MonthUnits) → now ≡ later → AreSums tiers now after
+  sums_after now is k lt side =
+      each k (k == leg.tier) refl lt side ∙ ap (λ xs. tier_side xs side (months_of (tier_at tiers k))) (sym is)
 
-  -- an open side was open before, so its tier is held
-  still_held : (k : ℕ) → k < length tiers → (side : MarketSide) → IsMarked next.open_sides (side_number side k) → IsMarked next.held k
-  still_held k lt side marked =
-      subst (λ n. IsMarked n k) (sym holds) ((are.each k lt).held_if side (less (side_number side k) marked))
+-- ---- one sum
 
-  used_open : (side : MarketSide) → (side ≡ on) ⊎ (side ≡ on → ⊥) → 0 < tier_side later side used
-      → IsMarked next.open_sides (side_number side number)
-  used_open side (inl same) above =
-      subst (λ z. IsMarked next.open_sides (side_number z number)) (sym same)
-      (open_if (omega (arith, subst (λ z. 0 < tier_side later z used) same above, new.sums on)))
-  used_open side (inr other) above =
-      kept (side_number side number)
-      (slots_apart on side number number (omega (arith, few, within_tiers)) (omega (arith, few, within_tiers)) (λ e. other))
-      ((are.each number within_tiers).open_if side (omega (arith, above, other_side_stays on side used used needed rests other)))
+open_sum : (bit sum kept : ℕ) (b : Bool) → (bit == 1) ≡ b → nat_lt 0 sum ≡ b → kept ≡ sum → cond (bit == 1) kept 0 ≡ sum
+open_sum bit sum kept true e above is = rw e is
+open_sum bit sum kept false e above is = let none : sum ≡ 0 = grind (arith, nat_tests, above) in rw e (sym none)
 
-  same_tier : IsTierSum tiers later next number
-  same_tier = record {
-    right = λ marked. subst (IsSum later (tier_at tiers number)) (sym here) new;
-    open_if = λ side above. used_open side (by_market on side) above;
-    held_if = still_held number within_tiers;
-  }
+-- a sum was set, and its side is open if the sum is above 0
+pub sum_set : (on : MarketSide) (tier sum : ℕ) (before after : TierSums) (kept : TierSum) → tier < MAX_TIERS
+    → length before.sums ≡ MAX_TIERS → after.sums ≡ set before.sums tier kept → sum_on on kept ≡ sum
+    → ((other : MarketSide) → (other ≡ on → ⊥) → sum_on other kept ≡ sum_on other (get_or before.sums tier no_sum))
+    → (bit_at (numbers_on on after.open_sides) (tier % BITS) == 1) ≡ nat_lt 0 sum
+    → ((side : MarketSide) (slot : ℕ) → (side ≡ on → slot ≡ tier % BITS → ⊥)
+    → bit_at (numbers_on side after.open_sides) slot ≡ bit_at (numbers_on side before.open_sides) slot)
+    → IsChanged on tier sum before after
+sum_set on tier sum before after kept lt long placed is others marked unmarked = record {
+  here = open_sum _ sum _ (nat_lt 0 sum) marked refl
+      (ap (λ xs. sum_on on (get_or xs tier no_sum)) placed
+      ∙ ap (sum_on on) (get_or-set_same before.sums tier kept no_sum (omega (arith, lt, long))) ∙ is);
+  others = λ side k few apart.
+      ap (λ bit. cond (bit == 1) (sum_on side (get_or after.sums k no_sum)) 0)
+      (unmarked side (k % BITS) (λ same slot. apart same (omega (arith, slot, few, lt))))
+      ∙ ap (λ n. cond (bit_at (numbers_on side before.open_sides) (k % BITS) == 1) n 0) (by side k apart (cases_eq k tier));
+}
+  where
+    by : (side : MarketSide) (k : ℕ) → (side ≡ on → k ≡ tier → ⊥) → (k ≡ tier) ⊎ (k ≢ tier)
+        → sum_on side (get_or after.sums k no_sum) ≡ sum_on side (get_or before.sums k no_sum)
+    by side k apart (inl same) =
+        ap (λ xs. sum_on side (get_or xs k no_sum)) placed ∙ ap (λ n. sum_on side (get_or (set before.sums tier kept) n no_sum)) same
+        ∙ ap (sum_on side) (get_or-set_same before.sums tier kept no_sum (omega (arith, lt, long)))
+        ∙ others side (λ e. apart e same) ∙ ap (λ n. sum_on side (get_or before.sums n no_sum)) (sym same)
+    by side k apart (inr other) =
+        ap (λ xs. sum_on side (get_or xs k no_sum)) placed
+        ∙ ap (sum_on side) (get_or-set_other before.sums tier k kept no_sum other)
 
-  module _ (k : ℕ) (lt : k < length tiers) (other : k ≢ number) where
-    stays : (side : MarketSide) → tier_side later side (months_of (tier_at tiers k)) ≡ tier_side rests side (months_of (tier_at tiers k))
-    stays side = other_tier_stays on side (months_of (tier_at tiers k)) used needed rests (apart k number lt within_tiers other)
+-- units were added to the sum of the side that they are on
+pub sum_added : (on : MarketSide) (tier part : ℕ) (before after : TierSums) → IsChanged on tier (sum_of before on tier + part) before after
+    → (side : MarketSide) (k of : ℕ) → k < MAX_TIERS → (side ≡ on → of ≡ part) → ((side ≡ on → ⊥) → of ≡ 0)
+    → sum_of after side k ≡ sum_of before side k + cond (tier == k) of 0
+sum_added on tier part before after changed side k of few is none = by (by_market on side) (tier == k) refl
+  where
+    nothing : (b : Bool) (n : ℕ) → n ≡ 0 → cond b n 0 ≡ 0
+    nothing true n e = e
+    nothing false n e = refl
 
-    other_tier : IsTierSum tiers later next k
-    other_tier = record {
-      right = λ marked. let was = (are.each k lt).right (subst (λ n. IsMarked n k) holds marked) in
-          subst (IsSum later (tier_at tiers k)) (sym (there k other))
-          (record {
-            sums = λ z. was.sums z ∙ sym (stays z);
-            at = place_stays on (months_of (tier_at tiers k)) used needed rests _ _ was.at;
-          });
-      open_if = λ side above. kept (side_number side k)
-          (slots_apart on side k number (omega (arith, few, lt)) (omega (arith, few, within_tiers)) (λ e same. other e))
-          ((are.each k lt).open_if side (omega (arith, above, stays side)));
-      held_if = still_held k lt;
-    }
-
-  each : (k : ℕ) (b : Bool) → (k == number) ≡ b → k < length tiers → IsTierSum tiers later next k
-  each k true e lt =
-      let is : k ≡ number = grind (arith, nat_tests, e) in subst (IsTierSum tiers later next) (sym is) same_tier
-  each k false e lt = other_tier k lt (grind (arith, nat_tests, e))
-
-  -- after a use of a side, the sums are those of what is left
-  pub sums_after : (now : List MonthUnits) → now ≡ later → AreSums tiers now next
-  sums_after now is =
-      subst (λ xs. AreSums tiers xs next) (sym is)
-      (record {
-        long = ap length placed ∙ length-set s.sums number sum ∙ are.long;
-        each = λ k lt. each k (k == number) refl lt;
-      })
+    by : (side ≡ on) ⊎ (side ≡ on → ⊥) → (b : Bool) → (tier == k) ≡ b → sum_of after side k ≡ sum_of before side k + cond (tier == k) of 0
+    by (inl same) true e =
+        let at : tier ≡ k = grind (arith, nat_tests, e) in
+        let here : sum_of after side k ≡ sum_of before side k + part =
+        subst (λ n. sum_of after side n ≡ sum_of before side n + part) at
+        (subst (λ z. sum_of after z tier ≡ sum_of before z tier + part) (sym same) changed.here) in
+        rw e (here ∙ ap (λ n. sum_of before side k + n) (sym (is same)))
+    by (inl same) false e =
+        let ne : k ≢ tier = grind (arith, nat_tests, e) in
+        let here = changed.others side k few (λ s at. ne at) in rw e (omega (arith, here))
+    by (inr other) b e =
+        let here = changed.others side k few (λ s at. other s) in
+        let zero = nothing b of (none other) in
+        let test : cond (tier == k) of 0 ≡ cond b of 0 = ap (λ t. cond t of 0) e in
+        omega (arith, here, zero, test)

@@ -28,6 +28,13 @@ module _ (on : MarketSide) (leg : MonthLeg) where
   unfolding weight
   side-cons m ms = sum_if (λ x. part_on on x.units) (is_in_tier leg m) m (filter (is_in_tier leg) ms)
 
+  -- the side is the sum of what all months contribute
+  pub side_is_sum : (ms : List MonthUnits) → sum_by (λ m. cond (is_in_tier leg m) (part_on on m.units) 0) ms ≡ tier_side ms on leg
+  unfolding weight
+  side_is_sum [] = refl
+  side_is_sum (m ∷ ms) =
+      let a = sum_by-cons weight m ms in let b = side-cons m ms in let d = side_is_sum ms in omega (arith, a, b, d)
+
   pub side-append : (xs ys : List MonthUnits) → tier_side (xs ++ ys) on leg ≡ tier_side xs on leg + tier_side ys on leg
   side-append xs ys =
       ap (sum_by (λ m. part_on on m.units)) (filter-append (is_in_tier leg) xs ys)

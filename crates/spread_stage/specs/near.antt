@@ -1,9 +1,6 @@
 -- Definitions on which no top-level guarantee depends: forms close to the code, type invariants and samples.
-pub mod Places
 pub mod Samples
 pub mod SetPlans
-pub mod Sides
 pub mod TierPlans
-pub mod TierSides
 pub mod TierSums
 pub mod Uses

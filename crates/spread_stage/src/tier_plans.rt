@@ -1,70 +1,39 @@
 //! The spreads of a commodity by the numbers of its tiers, in the form in which whole runs read them (docs/METHOD.md,
 //! Intracommodity spreads).
-ghost use Rattle.std.specs.Prelude.{◌≡◌, ◌<◌, ◌≤◌, true, length, map, All, IfOk};
+ghost use Rattle.std.specs.Prelude.{◌≡◌, ◌<◌, ◌≤◌, ℕ, List, true, length, All, IfOk};
 ghost use Rattle.std.specs.List.{list_any, position, position_or_len};
+ghost use Rattle.span_money.specs.declared.bits.TheConstants.{BITS};
 ghost use Rattle.span_tables.specs.Tables.{has_months};
-ghost use Rattle.span_tables.specs.Sides.{market_side};
 ghost use Rattle.span_tables.specs.declared.limits.TheConstants.{MAX_TIERS};
-ghost use Rattle.span_tables.specs.declared.sides.Direction.TheVariants.{ALong, AShort};
-ghost use Rattle.spread_stage.specs.near.TierSides.{needed_sides, side_number};
+ghost use Rattle.spread_stage.specs.near.TierPlans.{IsIndexed};
+ghost use Rattle.spread_stage.specs.declared.tier_plans.TierLeg.{TierLeg};
 
 use arrayvec::ArrayVec;
-use span_money::divisor::Divisor;
+use span_tables::leg_index::{LegAt, LegIndex};
 use span_tables::legs::MonthLeg;
 use span_tables::records::{Intra, Tier};
-use span_tables::sides::{Direction, MarketSide, Side, market_side};
-use span_tables::slots::Slots;
 use std::alloc::{AllocError, Global};
 
-/// A leg of a spread: the number of its tier among the tiers of its commodity, from 0, a side and a ratio.
+/// A leg of a spread, with the number of its tier among the tiers of its commodity, from 0.
 #[derive(Clone, Copy, Default)]
 pub struct TierLeg {
+    pub months: MonthLeg,
     pub tier: u8,
-    pub side: Side,
-    pub ratio: Divisor,
 }
 
-/// A spread by the numbers of its tiers, with its rate in minor units a spread, and for each direction the sides of
-/// tiers that it needs.
+/// A spread by the numbers of its tiers, with its rate in minor units a spread.
 #[derive(Drop)]
 pub struct TierSpread {
     pub legs: ArrayVec<TierLeg, 4>,
     pub rate: u32,
     pub priority: u32,
-    pub a_long: Slots,
-    pub a_short: Slots,
-    ghost long_needed: { a_long ≡ needed_sides ALong legs.items },
-    ghost short_needed: { a_short ≡ needed_sides AShort legs.items },
 }
 
-/// The tiers of a commodity, and its spreads by rising priority.
+/// The spreads of a commodity by rising priority, and their index by the numbers of their tiers.
 #[derive(Drop)]
 pub struct TierPlan {
-    pub tiers: Vec<Tier>,
     pub spreads: Vec<TierSpread>,
-}
-
-/// Returns the number of a side of a tier among all sides of tiers.
-#[inline(always)]
-pub fn side_number(on: MarketSide, tier: u8) -> usize
-    ensures { result ≡ side_number on tier }
-{
-    let first = 2 * tier as usize;
-    match on {
-        MarketSide::Long => first,
-        MarketSide::Short => first + 1,
-    }
-}
-
-// Returns the sides of tiers that legs need in a direction.
-fn needed_sides(direction: Direction, legs: &[TierLeg]) -> Slots
-    ensures { result ≡ needed_sides direction legs.now }
-{
-    let mut needed = Slots::none();
-    for leg in legs {
-        needed = needed.with(side_number(market_side(direction, leg.side), leg.tier));
-    }
-    needed
+    pub index: LegIndex,
 }
 
 // Returns the number of the tier that has the months of a leg, if there is one.
@@ -84,6 +53,20 @@ fn number_of(tiers: &[Tier], leg: &MonthLeg) -> usize
     place_of(tiers, leg).unwrap_or(tiers.len())
 }
 
+impl TierLeg {
+    ghost use Rattle.spread_stage.specs.near.TierPlans.{leg_at};
+
+    // Returns the leg as an index sees it.
+    fn at(&self) -> LegAt
+        ensures { result ≡ leg_at self.now }
+    {
+        LegAt {
+            number: self.tier as usize,
+            side: self.months.side,
+        }
+    }
+}
+
 impl TierSpread {
     ghost use Rattle.spread_stage.specs.near.TierPlans.{AreKnown, intra_of};
 
@@ -92,71 +75,54 @@ impl TierSpread {
         requires few { length tiers.now ≤ MAX_TIERS }
         requires known { All (λ leg. list_any (has_months leg) tiers.now ≡ true) intra.now.legs }
         requires legs { length intra.now.legs ≤ 4 }
-        ensures value { intra_of tiers.now result ≡ intra.now }
+        ensures value { intra_of result ≡ intra.now }
         ensures known { AreKnown tiers.now result }
     {
         let mut legs = ArrayVec::new();
         for leg in intra.legs() {
             legs.push(TierLeg {
+                months: *leg,
                 tier: number_of(tiers, leg) as u8,
-                side: leg.side,
-                ratio: Divisor::new(leg.ratio),
             });
         }
-        let a_long = needed_sides(Direction::ALong, &legs);
-        let a_short = needed_sides(Direction::AShort, &legs);
         TierSpread {
             legs,
             rate: intra.rate(),
             priority: intra.priority(),
-            a_long,
-            a_short,
-        }
-    }
-
-    /// Returns the sides of tiers that the spread needs in a direction.
-    #[inline(always)]
-    pub fn needed(&self, direction: Direction) -> Slots
-        ensures { result ≡ needed_sides direction self.now.legs.items }
-    {
-        match direction {
-            Direction::ALong => self.a_long,
-            Direction::AShort => self.a_short,
         }
     }
 }
 
-// Returns copies of tiers.
-fn copied(alloc: Global, tiers: &[Tier]) -> Result<Vec<Tier>, AllocError>
-    ensures { IfOk result (λ copy. copy.items ≡ tiers.now) }
+// Adds a spread with these legs to the index.
+fn add_legs(index: &mut LegIndex, number: usize, legs: &[TierLeg])
+    requires number { number < BITS }
+    requires some { 0 < length legs.now }
+    ensures added { IsIndexed index.new number legs.now }
+    ensures kept { (k : ℕ) (others : List TierLeg) → IsIndexed index.old k others → IsIndexed index.new k others }
 {
-    let mut copy = Vec::with_capacity(alloc, tiers.len())?;
-    for tier in tiers {
-        copy.push(tier.copied())?;
-    }
-    Ok(copy)
+    index.add(number, legs[0].at(), legs[legs.len() - 1].at());
 }
 
 impl TierPlan {
-    ghost use Rattle.spread_stage.specs.near.TierPlans.{AreKnown, intra_of};
+    ghost use Rattle.spread_stage.specs.near.SetPlans.{IsPlanOf};
 
-    /// Returns the plan of a commodity with these tiers and spreads. The months of each leg are those of a tier. Fails
-    /// if memory runs out.
+    /// Returns the plan of a commodity with these tiers and spreads. Each leg has the months of one of the
+    /// tiers. Fails if memory runs out.
     pub fn new(alloc: Global, tiers: &[Tier], intras: &[Intra]) -> Result<TierPlan, AllocError>
         requires few { length tiers.now ≤ MAX_TIERS }
+        requires spreads { length intras.now ≤ BITS }
         requires known { All (λ s. All (λ leg. list_any (has_months leg) tiers.now ≡ true) s.legs) intras.now }
         requires legs { All (λ s. length s.legs ≤ 4) intras.now }
-        ensures tiers { IfOk result (λ plan. plan.tiers.items ≡ tiers.now) }
-        ensures spreads { IfOk result (λ plan. map (intra_of tiers.now) plan.spreads.items ≡ intras.now) }
-        ensures known { IfOk result (λ plan. All (AreKnown tiers.now) plan.spreads.items) }
+        requires some { All (λ s. 0 < length s.legs) intras.now }
+        ensures { IfOk result (IsPlanOf tiers.now intras.now) }
     {
+        let mut index = LegIndex::none();
         let mut spreads = Vec::with_capacity(alloc, intras.len())?;
         for intra in intras {
-            spreads.push(TierSpread::new(tiers, intra))?;
+            let spread = TierSpread::new(tiers, intra);
+            add_legs(&mut index, spreads.len(), &spread.legs);
+            spreads.push(spread)?;
         }
-        Ok(TierPlan {
-            tiers: copied(alloc, tiers)?,
-            spreads,
-        })
+        Ok(TierPlan { spreads, index })
     }
 }

@@ -1,24 +1,18 @@
 //! The remaining deltas of months after intracommodity spreads, and the exact charge of the spreads (docs/METHOD.md,
 //! Intracommodity spreads; Charges).
-ghost use Rattle.std.specs.Prelude.{◌≡◌, false, ◌+◌, ◌*◌, ◌<◌, ◌≤◌, List, [], ◌∷◌, length, sum_by, All, IfOk, OnOk, OnErr};
+ghost use Rattle.std.specs.Prelude.{◌≡◌, false, ◌+◌, ◌*◌, ◌<◌, ◌≤◌, if◌then◌else◌, List, [], ◌∷◌, length, All, IfOk, OnOk, OnErr};
 ghost use Rattle.span_tables.specs.Accepted.{IsIntra};
 ghost use Rattle.span_tables.specs.Sides.{part_on, spreads_formed};
 ghost use Rattle.span_tables.specs.declared.limits.TheConstants.{MAX_RATE, MAX_UNITS};
 ghost use Rattle.spread_stage.specs.Months.{AreTierRests, MonthsRise, Shrinks, total_size};
-ghost use Rattle.spread_stage.specs.Spreads.{formed_both, formed_in, rests_after, rests_after_leg, spread_both_ways};
+ghost use Rattle.spread_stage.specs.Spreads.{formed_both, formed_in, is_in_tier, rests_after, rests_after_leg, spread_both_ways};
 ghost use Rattle.spread_stage.specs.Spreads.{spread_one_way, tier_rooms, tier_side, unspread};
-ghost use Rattle.spread_stage.specs.near.Places.{ArePlaces};
-ghost use Rattle.spread_stage.specs.near.Uses.{used_in_turn};
 ghost use Rattle.spread_stage.specs.declared.months.MonthUnits.{MonthUnits};
 
 use crate::months::{MonthUnits, Months};
-use crate::open_months::open_sides;
-use crate::tier_places::TierPlaces;
-use span_money::division::greatest_fit;
 use span_tables::legs::MonthLeg;
 use span_tables::records::Intra;
 use span_tables::sides::{Direction, MarketSide, SpreadsFormed, less_used, market_side, part_on};
-use span_tables::slots::OpenSides;
 use std::alloc::{AllocError, Global};
 use std::marker::Model;
 
@@ -29,19 +23,17 @@ use std::marker::Model;
 pub struct TierState {
     rests: Vec<MonthUnits>,
     charge: u128,
-    sides: OpenSides,
-    places: TierPlaces,
 }
 
 impl Model for TierState {
+    ghost use Rattle.spread_stage.specs.Months.{AreTierRests};
     ghost use Rattle.spread_stage.specs.Spreads.{TierRests};
-    ghost use Rattle.spread_stage.specs.near.Sides.{AreTiers};
 
     ghost Value = { TierRests };
 
     ghost view = { λ t. record { rests = t.rests.items; charge = t.charge } };
 
-    ghost invariant = { λ t. AreTiers (record { rests = t.rests.items; charge = t.charge }) t.sides t.places };
+    ghost invariant = { λ t. AreTierRests (record { rests = t.rests.items; charge = t.charge }) };
 }
 
 impl TierState {
@@ -52,22 +44,19 @@ impl TierState {
         TierState {
             rests: Vec::new(alloc),
             charge: 0,
-            sides: OpenSides::none(),
-            places: TierPlaces::none(),
         }
     }
 
     /// Replaces the state by the state of the months before any spread, as `start` returns it, and reuses its memory.
     ///
     /// If memory runs out, there are no months and the charge is 0.
+    #[tactic(auto, using(crate::proofs::SizeLemmas::shrinks_none))]
     pub fn restart(&mut self, months: &Months) -> Result<(), AllocError>
         ensures value { OnOk result (self.new ≡ unspread months.now) }
         ensures shrinks { OnOk result (Shrinks months.now self.new.rests) }
         ensures err { OnErr result (self.new ≡ unspread []) }
     {
         self.charge = 0;
-        self.sides = open_sides(months.as_slice());
-        self.places.forget();
         self.rests.clear();
         self.rests.extend_from_slice(months.as_slice())
     }
@@ -96,23 +85,20 @@ impl TierState {
         Ok(TierState {
             rests,
             charge: self.charge,
-            sides: self.sides,
-            places: self.places,
         })
     }
 
-    /// Returns whether a spread may be formed. If `false`, the spread changes nothing. If `true`, it may still form
-    /// nothing, since a side that spreads used up still counts.
-    #[inline(always)]
+    /// Returns whether a spread forms. If `false`, the spread changes nothing.
+    #[tactic(auto, using(crate::proofs::ClosedLemmas::both_ways_none))]
     pub fn may_spread(&self, intra: &Intra) -> bool
+        requires { IsIntra intra.now }
         ensures { result ≡ false → spread_both_ways self.now intra.now ≡ self.now }
     {
-        intra.may_form(Direction::ALong, &self.sides)
-            || intra.may_form(Direction::AShort, &self.sides)
+        spreads_formed(&self.rests, Direction::ALong, intra.legs()) > 0
+            || spreads_formed(&self.rests, Direction::AShort, intra.legs()) > 0
     }
 
     /// Forms one more spread in both directions, with side A long first.
-    #[inline(always)]
     pub fn spread(&mut self, intra: &Intra)
         requires { IsIntra intra.now }
         ensures value { self.new ≡ spread_both_ways self.old intra.now }
@@ -123,7 +109,7 @@ impl TierState {
 
     /// Forms one more spread as `spread` does, and returns the number of spreads formed in each direction, in 10^-4
     /// spreads.
-    #[inline(always)]
+    #[tactic(auto, unfolding(crate::specs::Spreads::spread_both_ways))]
     pub fn spread_counted(&mut self, intra: &Intra) -> SpreadsFormed
         requires { IsIntra intra.now }
         ensures value { self.new ≡ spread_both_ways self.old intra.now }
@@ -135,150 +121,99 @@ impl TierState {
         SpreadsFormed { a_long, a_short }
     }
 
-    // Forms a spread in one direction, and returns the number of spreads formed, in 10^-4 spreads. For most spreads the
-    // open sides of the legs' months show that nothing forms.
-    #[inline(always)]
+    // Forms a spread in one direction, and returns the number of spreads formed, in 10^-4 spreads.
+    #[tactic(auto, using(crate::proofs::SizeLemmas::shrinks_none))]
     fn spread_one_way(&mut self, direction: Direction, intra: &Intra) -> u64
         requires { IsIntra intra.now }
         ensures value { self.new ≡ spread_one_way intra.now direction self.old }
         ensures formed { result ≡ formed_in intra.now direction self.old }
         ensures shrinks { (months : List MonthUnits) → Shrinks months self.old.rests → Shrinks months self.new.rests }
     {
-        if !intra.may_form(direction, &self.sides) {
-            return 0;
-        }
-        let formed = form(&mut self.rests, &mut self.places, direction, intra.legs());
+        let formed = form(&mut self.rests, direction, intra.legs());
         self.charge += at_rate(formed, intra.rate());
         formed
     }
 }
 
-// Returns the sum of the months' parts on a side of the market, in units of 10^-8.
-fn sum_on(months: &[MonthUnits], on: MarketSide) -> u64
-    requires { sum_by (λ m. part_on on m.units) months.now ≤ MAX_UNITS }
-    ensures { result ≡ sum_by (λ m. part_on on m.units) months.now }
+// Returns the part of a month on a side of the market, in units of 10^-8, or 0 if the month is not in a leg's tier.
+fn part_in_tier(month: &MonthUnits, on: MarketSide, leg: &MonthLeg) -> u64
+    ensures { result ≡ (if is_in_tier leg.now month.now then part_on on month.now.units else 0) }
 {
-    months.iter().map(|month| part_on(on, month.units)).sum()
+    if leg.first <= month.month && month.month <= leg.last {
+        part_on(on, month.units)
+    } else {
+        0
+    }
 }
 
 // Returns the side of a leg's tier, in units of 10^-8, which is the sum of its months' parts.
-fn tier_side(rests: &[MonthUnits], places: &mut TierPlaces, on: MarketSide, leg: &MonthLeg) -> u64
-    requires rise { MonthsRise rests.now }
-    requires small { total_size rests.now ≤ MAX_UNITS }
-    requires places { ArePlaces places.old rests.now }
-    ensures side { result ≡ tier_side rests.now on leg.now }
-    ensures places { ArePlaces places.new rests.now }
+fn tier_side(rests: &[MonthUnits], on: MarketSide, leg: &MonthLeg) -> u64
+    requires { total_size rests.now ≤ MAX_UNITS }
+    ensures { result ≡ tier_side rests.now on leg.now }
 {
-    let (start, end) = places.find(rests, leg);
-    sum_on(&rests[start..end], on)
+    rests.iter().map(|month| part_in_tier(month, on, leg)).sum()
 }
 
 // Returns the number of spreads that a leg has room for, in 10^-4 spreads.
-fn room(rests: &[MonthUnits], places: &mut TierPlaces, direction: Direction, leg: &MonthLeg) -> u64
-    requires rise { MonthsRise rests.now }
+fn room(rests: &[MonthUnits], direction: Direction, leg: &MonthLeg) -> u64
     requires small { total_size rests.now ≤ MAX_UNITS }
-    requires places { ArePlaces places.old rests.now }
     requires ratio { 0 < leg.now.ratio }
-    ensures room { result ≡ spreads_formed (tier_rooms direction (leg.now ∷ []) rests.now) }
-    ensures places { ArePlaces places.new rests.now }
+    ensures { result ≡ spreads_formed (tier_rooms direction (leg.now ∷ []) rests.now) }
 {
-    let side = tier_side(rests, places, market_side(direction, leg.side), leg);
-    if side == 0 {
-        return 0;
-    }
-    greatest_fit(side, leg.ratio)
+    let side = tier_side(rests, market_side(direction, leg.side), leg);
+    leg.ratio.greatest_fit(side)
 }
 
 // Returns the number of spreads that all legs have room for, in 10^-4 spreads.
-fn spreads_formed(
-    rests: &[MonthUnits],
-    places: &mut TierPlaces,
-    direction: Direction,
-    legs: &[MonthLeg],
-) -> u64
-    requires rise { MonthsRise rests.now }
+fn spreads_formed(rests: &[MonthUnits], direction: Direction, legs: &[MonthLeg]) -> u64
     requires small { total_size rests.now ≤ MAX_UNITS }
-    requires places { ArePlaces places.old rests.now }
     requires ratios { All (λ leg. 0 < leg.ratio) legs.now }
-    ensures formed { result ≡ spreads_formed (tier_rooms direction legs.now rests.now) }
-    ensures places { ArePlaces places.new rests.now }
+    ensures { result ≡ spreads_formed (tier_rooms direction legs.now rests.now) }
 {
     match legs {
         [] => 0,
-        [leg] => room(rests, places, direction, leg),
+        [leg] => room(rests, direction, leg),
         [leg, others @ ..] => {
-            let formed = room(rests, places, direction, leg);
+            let formed = room(rests, direction, leg);
             if formed == 0 {
                 return 0;
             }
-            formed.min(spreads_formed(rests, places, direction, others))
+            formed.min(spreads_formed(rests, direction, others))
         }
     }
 }
 
-// Uses `needed` units on a side of the market, from the earliest month on.
-pub(crate) fn use_months(months: &mut [MonthUnits], on: MarketSide, needed: u64)
-    requires { total_size months.old ≤ MAX_UNITS }
-    ensures { months.new ≡ used_in_turn on needed months.old }
+// Uses what a leg needs of its tier's side, from the earliest month on.
+pub(crate) fn use_leg(rests: &mut [MonthUnits], on: MarketSide, leg: &MonthLeg, needed: u64)
+    requires rise { MonthsRise rests.old }
+    requires small { total_size rests.old ≤ MAX_UNITS }
+    ensures { rests.new ≡ rests_after_leg on needed rests.old leg.now }
 {
-    let mut needed = needed;
-    for month in months.iter_mut() {
-        let used = part_on(on, month.units).min(needed);
+    let mut left = needed;
+    for month in rests.iter_mut() {
+        let used = part_in_tier(month, on, leg).min(left);
         month.units = less_used(on, month.units, used);
-        needed -= used;
+        left -= used;
     }
 }
 
-// Uses what a leg needs of its tier's side, from the earliest month on.
-fn use_leg(
-    rests: &mut [MonthUnits],
-    places: &mut TierPlaces,
-    on: MarketSide,
-    leg: &MonthLeg,
-    needed: u64,
-)
-    requires rise { MonthsRise rests.old }
-    requires small { total_size rests.old ≤ MAX_UNITS }
-    requires places { ArePlaces places.old rests.old }
-    ensures rests { rests.new ≡ rests_after_leg on needed rests.old leg.now }
-    ensures places { ArePlaces places.new rests.new }
-{
-    let (start, end) = places.find(rests, leg);
-    use_months(&mut rests[start..end], on, needed);
-}
-
 // Uses what each leg needs for the number of spreads, one leg after the other.
-fn use_legs(
-    rests: &mut [MonthUnits],
-    places: &mut TierPlaces,
-    direction: Direction,
-    legs: &[MonthLeg],
-    formed: u64,
-)
+fn use_legs(rests: &mut [MonthUnits], direction: Direction, legs: &[MonthLeg], formed: u64)
     requires rise { MonthsRise rests.old }
     requires small { total_size rests.old ≤ MAX_UNITS }
-    requires places { ArePlaces places.old rests.old }
     requires fit { All (λ leg. formed * leg.ratio ≤ MAX_UNITS) legs.now }
-    ensures rests { rests.new ≡ rests_after direction formed legs.now rests.old }
-    ensures places { ArePlaces places.new rests.new }
+    ensures { rests.new ≡ rests_after direction formed legs.now rests.old }
 {
     for leg in legs {
         let needed = formed * u64::from(leg.ratio.get());
-        use_leg(rests, places, market_side(direction, leg.side), leg, needed);
+        use_leg(rests, market_side(direction, leg.side), leg, needed);
     }
 }
 
 // Forms a spread in one direction, and returns the number of spreads formed, in 10^-4 spreads.
-#[inline(never)]
-fn form(
-    rests: &mut [MonthUnits],
-    places: &mut TierPlaces,
-    direction: Direction,
-    legs: &[MonthLeg],
-) -> u64
+fn form(rests: &mut [MonthUnits], direction: Direction, legs: &[MonthLeg]) -> u64
     requires rise { MonthsRise rests.old }
     requires small { total_size rests.old ≤ MAX_UNITS }
-    requires places { ArePlaces places.old rests.old }
     requires legs { 0 < length legs.now }
     requires ratios { All (λ leg. 0 < leg.ratio) legs.now }
     ensures formed { result ≡ spreads_formed (tier_rooms direction legs.now rests.old) }
@@ -286,11 +221,10 @@ fn form(
     ensures rise { MonthsRise rests.new }
     ensures less { result + total_size rests.new ≤ total_size rests.old }
     ensures shrinks { (months : List MonthUnits) → Shrinks months rests.old → Shrinks months rests.new }
-    ensures places { ArePlaces places.new rests.new }
 {
-    let formed = spreads_formed(rests, places, direction, legs);
+    let formed = spreads_formed(rests, direction, legs);
     if formed > 0 {
-        use_legs(rests, places, direction, legs, formed);
+        use_legs(rests, direction, legs, formed);
     }
     formed
 }

@@ -8,7 +8,7 @@ use crate::credits::{loaded, two_commodities};
 use binding::binder::Binder;
 use binding::faults::BindFault;
 use binding::orders::{OrderBinder, Orders, bind_orders};
-use binding::positions::{bind, bind_faults, bind_positions};
+use binding::positions::{bind, bind_faults};
 use binding::trades::{Trade, order_of_trades};
 use inter_credit::credit::credit;
 use inter_credit::spreads::inter_spread;
@@ -46,7 +46,6 @@ fn calls_succeed(rt: HostRuntime) -> Result<(), Fail> {
     faults_read(&rt, alloc)?;
     let tables = tables_read(&rt, alloc)?;
     pieces_read(&rt, alloc, &tables)?;
-    contracts_bound(&rt, alloc, &tables)?;
     steps_bound(&rt, alloc, &tables)?;
     faults_found(&rt, alloc, &tables)?;
     let account = account_read(&rt, alloc, &tables)?;
@@ -156,14 +155,6 @@ fn piece_numbered(alloc: Global, bytes: &[u8]) -> Result<Option<RawPositions>, A
     Ok(Some(accounts.positions(records)))
 }
 
-// `param_check`: the same holdings, bound with the contracts only.
-fn contracts_bound(rt: &impl Abort, alloc: Global, tables: &Tables) -> Result<(), Fail> {
-    let positions = read_positions(alloc, POSITIONS)?;
-    let portfolios = bind_positions(alloc, tables.contracts(), &positions)?;
-    assert!(rt; is_calendar(&portfolios));
-    Ok(())
-}
-
 // `param_check`: the same holdings, bound in the steps that several threads can take concurrently.
 fn steps_bound(rt: &impl Abort, alloc: Global, tables: &Tables) -> Result<(), Fail> {
     let positions = read_positions(alloc, POSITIONS)?;
@@ -221,7 +212,7 @@ fn account_read(rt: &impl Abort, alloc: Global, tables: &Tables) -> Result<Portf
 }
 
 // Returns whether an account holds only this contract.
-fn holds(account: &Portfolio, contract: usize, net: i64) -> bool {
+fn holds(account: &Portfolio, contract: u32, net: i32) -> bool {
     match account.holdings() {
         [only] => (only.contract, only.net) == (contract, net),
         _ => false,

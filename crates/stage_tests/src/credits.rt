@@ -1,5 +1,5 @@
-//! The hint of a state of two commodities that a spread cannot be formed, given before the spread is evaluated. No
-//! clause says that this hint is ever given.
+//! Whether a spread between two commodities forms, asked before the spread is evaluated. No clause says that the answer
+//! is ever `false`.
 ghost use Rattle.std.specs.Prelude.{◌≡◌, ◌≤◌, IfOk, length, nat_abs};
 ghost use Rattle.span_tables.specs.declared.limits.TheConstants.{MAX_PRICE2, MAX_UNITS};
 
@@ -44,18 +44,23 @@ pub(crate) fn loaded(
     load(alloc, &state, 1, Units::new(second.0), second.1)
 }
 
-// A spread without a residual delta on one side is reported as impossible. Otherwise it may be formed in one direction
-// or the other.
+// A spread forms if the remaining delta of each commodity is large enough, on the side of the market that one of the
+// directions needs.
 #[test]
 fn spreads_that_may_be_formed(rt: HostRuntime) -> Result<(), Fail> {
     let alloc = rt.alloc();
     let tables = two_commodities(&rt, alloc)?;
     let spread = tables.inters().first().ok_or("a spread")?;
-    for (first, second) in [(1, 1), (-1, -1), (1, 0), (0, -1)] {
+    for (first, second) in [
+        (10_000, 10_000),
+        (-10_000, -10_000),
+        (10_000, 0),
+        (9_999, -10_000),
+    ] {
         let state = loaded(alloc, (first, 2400), (second, 3600))?;
         assert!(rt; !state.may_spread(spread), "{first} {second}");
     }
-    for (first, second) in [(1, -1), (-1, 1)] {
+    for (first, second) in [(10_000, -10_000), (-10_000, 10_000)] {
         let state = loaded(alloc, (first, 2400), (second, 3600))?;
         assert!(rt; state.may_spread(spread), "{first} {second}");
     }

@@ -2,15 +2,16 @@
 ghost use Rattle.span_money.specs.LineFields.{line};
 ghost use Rattle.span_money.specs.near.Fields.{field_text};
 ghost use Rattle.statement_text.specs.Statement.{commodity_text, figures_line, row_text, total_line, total_numbers, total_of};
+ghost use Rattle.statement_text.specs.near.Fronts.{front_text};
 ghost use Rattle.inter_credit.specs.OptionValue.{due_of, excess_of};
 ghost use Rattle.plan_ir.specs.Figures.{option_value_of};
 ghost use Rattle.std.specs.Arc.{arc_value};
 ghost use Rattle.span_money.specs.declared.amounts.TheConstants.{MAX_MONEY};
-ghost use Rattle.std.specs.Prelude.{[], ◌++◌, ◌∷◌, ◌≡◌, ◌*◌, ◌<◌, ◌≤◌, IfOk, OnOk, flat_map, length, map, pos};
+ghost use Rattle.std.specs.Prelude.{[], ◌++◌, ◌∷◌, ◌≡◌, ◌*◌, ◌<◌, ◌≤◌, ℕ, IfOk, List, OnOk, flat_map, length, map, pos};
 
 use plan_ir::figures::Figures;
 use span_money::amounts::Money;
-use span_money::line_fields::{Field, push_line_of_numbers};
+use span_money::line_fields::{Field, push_line_of_numbers, push_rest_of_numbers, push_start};
 use span_tables::name::Name;
 use std::alloc::{AllocError, Global};
 use std::sync::Arc;
@@ -28,20 +29,47 @@ pub fn ids_of<'a>(account: &'a Name, set_id: &'a Name, commodity: &'a Name) -> [
     ]
 }
 
-// The line of a commodity's figures.
-#[tactic(auto, unfolding(crate::specs::Statement::figures_line))]
-fn push_commodity(
+// Returns the start of the lines of an account's commodities: the word, and the ids of the account and the parameter
+// set.
+fn front_of(alloc: Global, row: &Row) -> Result<Vec<u8>, AllocError>
+    ensures { IfOk result (λ front. front.items ≡ front_text row.now.portfolio.account row.now.set.tables.set_id) }
+{
+    let ids = [
+        Field::Bytes(row.account().as_bytes()),
+        Field::Bytes(row.set_id().as_bytes()),
+    ];
+    let mut front = Vec::new(alloc);
+    push_start(&mut front, "R", &ids)?;
+    Ok(front)
+}
+
+// Appends the line of a commodity's figures, whose start is `front`.
+fn push_behind(
     out: &mut Vec<u8>,
-    account: &Name,
-    set_id: &Name,
+    front: &[u8],
     commodity: &Name,
     figures: &Figures,
 ) -> Result<(), AllocError>
-    ensures { OnOk result (out.new.items
-        ≡ out.old.items ++ line (figures_line account.now set_id.now commodity.now figures.now)) }
+    ensures { (account set_id : List ℕ) → front.now ≡ front_text account set_id
+        → OnOk result (out.new.items ≡ out.old.items ++ line (figures_line account set_id commodity.now figures.now)) }
 {
-    let ids = ids_of(account, set_id, commodity);
-    push_line_of_numbers(out, "R", &ids, &figures.numbers())
+    out.extend_from_slice(front)?;
+    push_rest_of_numbers(out, commodity.as_bytes(), &figures.numbers())?;
+    Ok(())
+}
+
+// Appends the line of an account for the commodity with index `number`, whose start is `front`, or nothing.
+fn push_if_held(out: &mut Vec<u8>, front: &[u8], row: &Row, number: usize) -> Result<(), AllocError>
+    requires number { number < length row.now.set.tables.commodities }
+    requires front { front.now ≡ front_text row.now.portfolio.account row.now.set.tables.set_id }
+    ensures { OnOk result (out.new.items
+        ≡ out.old.items ++ commodity_text row.now.set.tables row.now.portfolio number) }
+{
+    if !row.held(number) {
+        return Ok(());
+    }
+    let commodity = &row.set().tables().commodities()[number].id;
+    push_behind(out, front, commodity, row.figures(number))
 }
 
 /// Appends the line of an account for the commodity with index `number` (docs/FORMATS.md, Statement: the R line).
@@ -51,17 +79,8 @@ pub fn push_commodity_of(out: &mut Vec<u8>, row: &Row, number: usize) -> Result<
     ensures { OnOk result (out.new.items
         ≡ out.old.items ++ commodity_text row.now.set.tables row.now.portfolio number) }
 {
-    if !row.held(number) {
-        return Ok(());
-    }
-    let commodity = &row.set().tables().commodities()[number].id;
-    push_commodity(
-        out,
-        row.account(),
-        row.set_id(),
-        commodity,
-        row.figures(number),
-    )
+    let front = front_of(*out.allocator(), row)?;
+    push_if_held(out, &front, row, number)
 }
 
 // The last line of an account: its total, and the numbers after it.
@@ -124,8 +143,9 @@ pub fn push_total_of(out: &mut Vec<u8>, row: &Row) -> Result<(), AllocError>
 pub fn push_row(out: &mut Vec<u8>, row: &Row) -> Result<(), AllocError>
     ensures { OnOk result (out.new.items ≡ out.old.items ++ row_text row.now.set.tables row.now.portfolio) }
 {
+    let front = front_of(*out.allocator(), row)?;
     for number in 0..row.set().tables().commodities().len() {
-        push_commodity_of(out, row, number)?;
+        push_if_held(out, &front, row, number)?;
     }
     push_total_of(out, row)
 }

@@ -25,7 +25,7 @@ use crate::progress::{Progress, all_done, is_under_way};
 use crate::run_memory::RunMemory;
 use crate::stepped::Stepped;
 use crate::tasks::Task;
-use crate::watches::{Watch, pass_steps};
+use crate::watches::{Upcoming, Watch};
 use crate::whole::Whole;
 use plan_ir::figures::Figures;
 use plan_ir::values::Value;
@@ -118,9 +118,10 @@ impl Board {
     /// Creates a board of a job and runs every step of its plan in one call. Its history is the course of the parameter
     /// set, which it shares. Fails if memory runs out.
     ///
-    /// Calls the watch for each step in the order of that history, before the first step is evaluated. The watch is
-    /// also called for the steps of commodities that are not held, for which nothing is evaluated. What an earlier run
-    /// left in `memory` has no effect.
+    /// Calls the watch for each step in the order of that history: for the steps of a commodity in front of their
+    /// evaluation, for the steps between commodities in front of theirs, and for figures and totals in front of theirs.
+    /// The watch is also called for the steps of commodities that are not held, for which nothing is evaluated. What an
+    /// earlier run left in `memory` has no effect.
     pub fn whole<W: Watch>(
         alloc: Global,
         job: Arc<Job>,
@@ -134,8 +135,8 @@ impl Board {
     {
         // This call is for its contract: the plan satisfies the plan law, and the portfolio fits the tables.
         let _plan = job.plan();
-        pass_steps(course.events(), watch);
-        let whole = Whole::new(alloc, &job, course, memory)?;
+        let mut upcoming = Upcoming::all(course.events(), watch);
+        let whole = Whole::new(alloc, &job, course, &mut upcoming, memory)?;
         Ok(Board {
             alloc,
             job,

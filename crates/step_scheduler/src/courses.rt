@@ -57,7 +57,7 @@ impl Course {
     {
         let tables = set.tables();
         let plans = plans_of(alloc, tables)?;
-        let index = SpreadIndex::new(alloc, tables.commodities().len(), tables.inters())?;
+        let index = SpreadIndex::new(alloc, tables.inters())?;
         let events = Arc::new(alloc, events)?;
         Ok(Course {
             set,

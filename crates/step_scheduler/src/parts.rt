@@ -16,6 +16,7 @@ ghost use Rattle.step_scheduler.specs.near.Parts.{ArePartsFrom, CanBeLoaded, Has
 
 use crate::held_figures::HeldFigures;
 use crate::run_memory::{Part, RunMemory};
+use crate::watches::{Upcoming, Watch};
 use inter_credit::option_value::net_value;
 use inter_credit::requirement::minimum;
 use inter_credit::state::InterState;
@@ -27,10 +28,9 @@ use span_tables::held::HeldRun;
 use span_tables::portfolios::{Holding, Portfolio};
 use span_tables::runs::{end_of_run, rise_by_commodity, sort_by_commodity};
 use span_tables::tables::Tables;
-use spread_stage::months::Months;
 use spread_stage::tier_plans::TierPlan;
-use spread_stage::tier_sums::TierRun;
 use std::alloc::{AllocError, Global};
+use std::mem;
 
 // Returns the option value of a commodity, or 0 if options have no value.
 #[inline(always)]
@@ -43,29 +43,30 @@ fn worth_of(tables: &Tables, held: &HeldRun<'_>) -> Money
     net_value(held)
 }
 
-// Returns the values of a commodity from its held contracts. Refills `months` and `tiers`, whatever they contained
-// before.
+// Returns the values of a commodity from its held contracts. Uses the months and the tiers
+// in `memory`, whatever they contained before.
 #[inline(always)]
 fn part_of(
     tables: &Tables,
     plan: &TierPlan,
     commodity: usize,
     held: &HeldRun<'_>,
-    months: &mut Months,
-    tiers: &mut TierRun,
+    memory: &mut RunMemory,
 ) -> Result<Part, AllocError>
     requires commodity { commodity < length tables.now.commodities }
     requires plan { IsPlan tables.now (commodity_id tables.now commodity) plan.now }
     ensures commodity { IfOk result (λ part. part.commodity ≡ commodity) }
     ensures part { IfOk result (λ part. (holdings : List Holding) → held.now ≡ held_at tables.now holdings commodity
         → IsPart tables.now holdings part) }
+    ensures parts { memory.new.parts.items ≡ memory.old.parts.items }
 {
     tables.known();
+    let RunMemory { months, tiers, .. } = memory;
     let of = &tables.commodities()[commodity];
     let sums = sums(held);
     let scan = scan(&sums);
     months.refill(held)?;
-    tiers.run(held, months, plan)?;
+    tiers.run(held, months, tables.tiers_of(commodity), plan)?;
     let delivery = tiers.delivery(months, tables.spots(commodity));
     let minimum = minimum(held, of.minimum_rate, of.method);
     Ok(Part {
@@ -80,32 +81,31 @@ fn part_of(
 }
 
 // Computes the part of each held commodity of a job, in ascending order of number, from its holdings by commodity.
-// Replaces the parts.
-fn parts_of_runs(
+// Replaces the parts in `memory`. Calls the watch for the steps of each commodity in front of its part.
+fn parts_of_runs<W: Watch>(
     tables: &Tables,
     plans: &[TierPlan],
     portfolio: &Portfolio,
     holdings: &[Holding],
-    months: &mut Months,
-    tiers: &mut TierRun,
-    parts: &mut Vec<Part>,
+    upcoming: &mut Upcoming<'_, W>,
+    memory: &mut RunMemory,
 ) -> Result<(), AllocError>
     requires plans { ArePlans tables.now plans.now }
     requires fits { fits (length tables.now.contracts) portfolio.now.holdings ≡ true }
     requires holdings { AreByCommodity tables.now portfolio.now.holdings holdings.now }
-    ensures { OnOk result (ArePartsFrom tables.now portfolio.now.holdings 0 parts.new.items) }
+    ensures { OnOk result (ArePartsFrom tables.now portfolio.now.holdings 0 memory.new.parts.items) }
 {
     tables.known();
     portfolio.known();
-    parts.clear();
+    memory.parts.clear();
     let mut done = 0;
     while done < holdings.len() {
         let commodity = tables.commodity_of(holdings[done].contract);
+        upcoming.pass_groups(commodity + 1);
         let end = end_of_run(tables, holdings, done + 1, commodity);
         let held = HeldRun::of(tables, &holdings[done..end]);
-        let plan = &plans[commodity];
-        let part = part_of(tables, plan, commodity, &held, months, tiers)?;
-        parts.push(part)?;
+        let part = part_of(tables, &plans[commodity], commodity, &held, memory)?;
+        memory.parts.push(part)?;
         done = end;
     }
     Ok(())
@@ -115,29 +115,27 @@ fn parts_of_runs(
 //
 // The holdings of each commodity are read where they are in the portfolio if commodity numbers rise along it, as they
 // usually do.
-pub(crate) fn find_parts(
+pub(crate) fn find_parts<W: Watch>(
     tables: &Tables,
     plans: &[TierPlan],
     portfolio: &Portfolio,
+    upcoming: &mut Upcoming<'_, W>,
     memory: &mut RunMemory,
 ) -> Result<(), AllocError>
     requires plans { ArePlans tables.now plans.now }
     requires fits { fits (length tables.now.contracts) portfolio.now.holdings ≡ true }
     ensures { OnOk result (ArePartsFrom tables.now portfolio.now.holdings 0 memory.new.parts.items) }
 {
-    let RunMemory {
-        sorted,
-        months,
-        tiers,
-        parts,
-        ..
-    } = memory;
     let holdings = portfolio.holdings();
     if rise_by_commodity(tables, holdings) {
-        return parts_of_runs(tables, plans, portfolio, holdings, months, tiers, parts);
+        return parts_of_runs(tables, plans, portfolio, holdings, upcoming, memory);
     }
-    sort_by_commodity(tables, holdings, sorted)?;
-    parts_of_runs(tables, plans, portfolio, sorted, months, tiers, parts)
+    let alloc = *memory.sorted.allocator();
+    let mut sorted = mem::replace(&mut memory.sorted, Vec::new(alloc));
+    sort_by_commodity(tables, holdings, &mut sorted)?;
+    parts_of_runs(tables, plans, portfolio, &sorted, upcoming, memory)?;
+    memory.sorted = sorted;
+    Ok(())
 }
 
 // Loads the net delta and the price risk of a commodity.

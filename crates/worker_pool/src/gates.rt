@@ -11,6 +11,11 @@ pub trait Gate: Sync {
     fn pass(&self, worker: usize, account: &Name, step: usize)
         requires { worker < MAX_WORKERS };
 
+    /// Returns whether `pass` does nothing, so that it need not be called.
+    fn is_idle(&self) -> bool {
+        false
+    }
+
     /// Called by the thread that prepares the next parameter set of a roll, before it begins.
     fn beside(&self) {}
 }
@@ -21,4 +26,8 @@ pub struct OpenGate;
 
 impl Gate for OpenGate {
     fn pass(&self, _worker: usize, _account: &Name, _step: usize) {}
+
+    fn is_idle(&self) -> bool {
+        true
+    }
 }

@@ -36,6 +36,10 @@ impl<G: Gate> Watch for StepsOf<'_, G> {
         self.gate
             .pass(self.team.number(COORDINATOR), self.account, step);
     }
+
+    fn is_idle(&self) -> bool {
+        self.gate.is_idle()
+    }
 }
 
 /// Runs of one account after another under a parameter set, on one thread. They follow one course of the set, and share

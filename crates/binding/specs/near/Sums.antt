@@ -1,5 +1,5 @@
 -- Sums by contract number. A mark for each number records whether anything was added.
-use Rattle.std.specs.Prelude.{◌≡◌, ℕ, ◌+◌, ◌*◌, ◌/◌, ◌%◌, ◌<◌, ◌≤◌, ◌==◌, Bool}
+use Rattle.std.specs.Prelude.{◌≡◌, ℕ, ◌+◌, ◌*◌, ◌/◌, ◌%◌, ◌^◌, ◌<◌, ◌≤◌, ◌==◌, Bool}
 use Rattle.std.specs.Prelude.{true, nat_lt, nat_abs, if◌then◌else◌, List, map, length, slice_index_or, ℤ, pos}
 use Rattle.std.specs.Int.{bit_at}
 use Rattle.std.specs.List.{range_with_len}
@@ -21,10 +21,11 @@ sum_at marks places k = if is_marked marks k then slice_index_or places k (pos 0
 unfoldable pub sums_of : List ℕ → List ℤ → List ℤ
 sums_of marks places = map (sum_at marks places) (range_with_len 0 (length places))
 
--- there is a mark for each number below n, and no other mark is set
+-- there is a mark for each number below n, and no other mark is set; n has at most 32 bits
 pub record AreMarks (marks : List ℕ) (n : ℕ) : Type 0 where
   pub room : n ≤ MARKS * length marks
   pub within : (k : ℕ) → is_marked marks k ≡ true → k < n
+  pub few : n < 2 ^ 32
 
 -- a stored net: a net over the limit, long or short, is stored as `MAX_NET + 1`
 abbrev pub kept_net : ℤ → ℤ

@@ -111,7 +111,7 @@ pub(crate) fn held_before<'a>(portfolios: &'a [Portfolio], account: &OrderAccoun
 fn nets_after(
     alloc: Global,
     sums: &mut Sums,
-    contracts: usize,
+    contracts: u32,
     portfolios: &[Portfolio],
     order: &KeptOrder,
 ) -> Result<AccountNets, AllocError>
@@ -128,7 +128,7 @@ fn nets_after(
 pub(crate) fn order_excesses(
     alloc: Global,
     sums: &mut Sums,
-    contracts: usize,
+    contracts: u32,
     portfolios: &[Portfolio],
     orders: &[KeptOrder],
 ) -> Result<Vec<Excess>, AllocError>
@@ -160,7 +160,7 @@ fn account_of<'a>(portfolios: &'a [Portfolio], account: &'a OrderAccount) -> &'a
 pub(crate) fn portfolio_after(
     alloc: Global,
     sums: &mut Sums,
-    contracts: usize,
+    contracts: u32,
     portfolios: &[Portfolio],
     order: &KeptOrder,
 ) -> Result<Portfolio, AllocError>
@@ -175,7 +175,7 @@ pub(crate) fn portfolio_after(
 /// Returns the portfolio of each order's account with the order, in the given number of contracts.
 pub(crate) fn portfolios_after(
     alloc: Global,
-    contracts: usize,
+    contracts: u32,
     portfolios: &[Portfolio],
     orders: &[KeptOrder],
 ) -> Result<Vec<Portfolio>, AllocError>

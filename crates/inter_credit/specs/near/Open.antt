@@ -10,7 +10,7 @@ use Rattle.inter_credit.specs.declared.commodity_state.CommodityState.{Commodity
 abbrev pub AreOpen : OpenSides → List CommodityState → Type 0
 AreOpen sides states = (commodity : ℕ) → IsOpenAt sides commodity (rest_at states commodity)
 
--- each commodity is marked, or its state is that of a commodity that is not loaded
+-- each commodity is marked, or its state is the one of an unloaded commodity
 abbrev pub AreLoaded : ℕ → List CommodityState → Type 0
 AreLoaded loaded states = (commodity : ℕ) → IsMarked loaded commodity ⊎ (state_at states commodity ≡ unspread_state (pos 0) 0)
 

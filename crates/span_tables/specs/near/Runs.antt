@@ -5,14 +5,14 @@ use Rattle.span_tables.specs.Tables.{AcceptedTables, commodity_id}
 use Rattle.span_tables.specs.declared.portfolios.Holding.{Holding}
 use Rattle.span_tables.specs.near.Gathered.{holdings_in, number_held}
 
--- the same holdings by rising commodity number, those of a commodity in the same order
+-- the same holdings by rising commodity number, the holdings of one commodity in the same order
 pub record AreByCommodity (t : AcceptedTables) (holdings sorted : List Holding) : Type 0 where
   pub known : All (λ h. h.contract < length t.contracts) sorted
   pub rise : IsNonDecreasingBy (number_held t) sorted
   pub same : (c : ℕ) → c < length t.commodities
       → holdings_in t.contracts sorted (commodity_id t c) ≡ holdings_in t.contracts holdings (commodity_id t c)
 
--- the holdings that are left once those of commodities below a number are taken
+-- the holdings that are left after the holdings of the commodities below a number are removed
 pub record AreLeft (t : AcceptedTables) (holdings : List Holding) (next : ℕ) (left : List Holding) : Type 0 where
   pub known : All (λ h. h.contract < length t.contracts) left
   pub rise : IsNonDecreasingBy (number_held t) left

@@ -1,5 +1,5 @@
 -- The terms of contracts, from which figures are computed.
-use Rattle.std.specs.Prelude.{◌≡◌, ◌≤◌, ◌*◌, ◌&&◌, Bool, bytes_eq, filter, nat_le, ℕ, ℤ, ◌*ℤ◌, pos, nat_abs, List}
+use Rattle.std.specs.Prelude.{◌≡◌, ◌≤◌, ◌*◌, ◌&&◌, Bool, bytes_eq, filter, nat_le, ℕ, ◌*ℤ◌, pos, nat_abs, List}
 use Rattle.std.specs.Prelude.{length, map, All, option_map, slice_get, unwrap_or}
 use Rattle.std.specs.List.{position_or_len}
 use Rattle.span_tables.specs.Accepted.{commodity_number}
@@ -39,7 +39,7 @@ pub record ContractsView : Type 0 where
   pub records : List Contract
   pub terms : List Terms
 
--- the terms are those of the records, for some commodities and tiers
+-- the terms are the terms of the records, for some commodities and tiers
 pub record AreTerms (records : List Contract) (terms : List Terms) : Type 0 where
   pub commodities : List Commodity
   pub tiers : List Tier

@@ -1,7 +1,5 @@
 -- How months gather their units, and how their units are used in order.
-use Rattle.std.specs.Prelude.{ℕ, ◌-◌, ◌==◌, min, nat_lt, if◌then◌else◌, List, [], ◌∷◌, ℤ, ◌+ℤ◌}
-use Rattle.span_tables.specs.Sides.{part_on, less_used}
-use Rattle.span_tables.specs.declared.sides.MarketSide.{MarketSide}
+use Rattle.std.specs.Prelude.{ℕ, ◌==◌, nat_lt, if◌then◌else◌, List, [], ◌∷◌, slice_get, option_map, unwrap_or, ℤ, pos, ◌+ℤ◌}
 use Rattle.spread_stage.specs.declared.months.MonthUnits.{MonthUnits}
 
 -- the months with units added to one month, which is inserted in order if it is missing
@@ -24,9 +22,6 @@ abbrev pub gathered : List MonthUnits → List MonthUnits
 gathered [] = []
 gathered (m ∷ ms) = with_units m.month m.units (gathered ms)
 
--- the months after `needed` units on a side of the market were used, in the order of the months
-abbrev pub used_in_turn : MarketSide → ℕ → List MonthUnits → List MonthUnits
-used_in_turn on needed [] = []
-used_in_turn on needed (m ∷ ms) =
-    record { month = m.month; units = less_used on m.units (min (part_on on m.units) needed) }
-    ∷ used_in_turn on (needed - min (part_on on m.units) needed) ms
+-- the units at a place, or 0 if no month has the place
+abbrev pub units_in : List MonthUnits → ℕ → ℤ
+units_in months place = unwrap_or (option_map (λ m. m.units) (slice_get months place)) (pos 0)

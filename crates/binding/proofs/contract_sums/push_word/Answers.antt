@@ -19,8 +19,11 @@ loop-left-init c =
 pub push_held-requires : goal.push_held-requires
 push_held-requires c =
     let fits : c.loop-left.left < 2 ^ 64 = search rules in
-    lowest_marked c.args.marks.now c.args.places.now c.args.word c.loop-left.left c.requires.marks fits
-    (omega (arith, c.loop-left-test.true)) c.loop-left.invariant.same
+    record {
+      number = lowest_marked c.args.marks.now c.args.places.now c.args.word c.loop-left.left c.requires.marks fits
+          (omega (arith, c.loop-left-test.true)) c.loop-left.invariant.same;
+      few = c.requires.marks.few;
+    }
 
 pub loop-left-smaller : goal.loop-left-smaller
 loop-left-smaller c =

@@ -1,12 +1,9 @@
-use Rattle.std.proofs.Common.{◌≡◌, ◌<◌, ◌≤◌, List, [], ◌∷◌, ◌++◌, get_or, not, length, ap, ◌∙◌, arith, map, rules, subst, sym, take}
+use Rattle.std.proofs.Common.{◌≡◌, ◌<◌, ◌≤◌, List, [], ◌∷◌, ◌++◌, get_or, not, length, ap, ◌∙◌, arith, map, rules, sym, take}
 use Rattle.std.specs.List.{position_or_len}
 use Rattle.std.proofs.lemmas.List.{map-append, take_more}
 use Rattle.std.proofs.lemmas.List.Sums.{prefix_len-le-length}
-use Rattle.span_tables.specs.Accepted.{commodity_number}
 use Rattle.span_tables.specs.declared.contracts.Terms.{Terms}
 use Rattle.span_tables.specs.declared.limits.TheConstants.{MAX_TIERS}
-use Rattle.span_tables.specs.declared.records.Contract.{Contract}
-use Rattle.span_tables.specs.declared.records.Tier.{Tier}
 use Rattle.span_tables.specs.near.Terms.{has_month, numbered_terms, terms_of}
 use Rattle.span_tables.proofs.GroupLemmas.{number_within}
 use Rattle.span_tables.proofs.MonthLemmas.{tiers_listed}

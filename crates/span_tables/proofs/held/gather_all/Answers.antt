@@ -1,4 +1,4 @@
-use Rattle.std.proofs.Common.{◌≡◌, ◌∙◌}
+use Rattle.std.proofs.Common.{◌∙◌}
 use Rattle.std.proofs.lemmas.Result.{IfOk-weaker}
 use Rattle.span_tables.proofs.GatherLemmas.{all_held_of, all_in_range}
 use Rattle.span_tables.proofs.held.gather_all.Goals as goal

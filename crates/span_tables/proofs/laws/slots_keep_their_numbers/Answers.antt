@@ -1,4 +1,4 @@
-use Rattle.span_tables.proofs.SlotLemmas.{has_all_marked, marked_before, marked_kept, marked_new}
+use Rattle.span_tables.proofs.SlotLemmas.{marked_before, marked_kept, marked_new}
 use Rattle.span_tables.proofs.laws.slots_keep_their_numbers.Goals as goal
 
 pub returns-clause-added : goal.returns-clause-added
@@ -9,6 +9,3 @@ returns-clause-kept c = marked_kept
 
 pub returns-clause-alone : goal.returns-clause-alone
 returns-clause-alone c = marked_before
-
-pub returns-clause-all : goal.returns-clause-all
-returns-clause-all c = has_all_marked

@@ -1,5 +1,5 @@
 use Rattle.std.proofs.Common.{◌≡◌, ◌≤◌, ◌<◌, ◌+◌, ◌*◌, ◌++◌, nat_abs, sym, ap, ◌∙◌, subst, arith, length}
-use Rattle.std.proofs.Common.{take, suc, ◌∷◌, [], lit<, ℤ, ◌*ℤ◌, pos, FitsSigned, to_z, of_z, w64, rules, true, leb}
+use Rattle.std.proofs.Common.{take, suc, ◌∷◌, [], lit<, ℤ, ◌*ℤ◌, FitsSigned, to_z, of_z, w64, rules, true, leb}
 use Rattle.std.proofs.lemmas.Bool.Decides.{nat_tests}
 use Rattle.std.proofs.lemmas.List.{take_all}
 use Rattle.std.proofs.Math.Seq.{take-suc}

@@ -5,6 +5,5 @@ pub loop-commodity-preserved : goal.loop-commodity-preserved
 loop-commodity-preserved c =
     plans_more c.args.tables.now c.loop-commodity.commodity _ _ c.in_ok-new.field-0 c.loop-commodity.invariant
     (plan_made c.args.tables.now _ c.in_ok-new.field-0 c.tiers_of-tiers.result.now c.intras.result.now c.tiers_of-tiers.ensures.value
-    c.intras.ensures.value c.tiers_of-tiers.ensures.few c.tiers_of-tiers.ensures.apart c.in_ok-new.ensures.tiers
-    c.in_ok-new.ensures.spreads c.in_ok-new.ensures.known)
+    c.intras.ensures.value c.in_ok-new.ensures)
     c.in_ok-push.ensures.items

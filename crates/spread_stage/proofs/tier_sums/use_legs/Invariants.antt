@@ -1,16 +1,15 @@
-use Rattle.std.proofs.Common.{◌≡◌, ◌≤◌, map, take}
+use Rattle.std.proofs.Common.{◌≡◌, ◌≤◌, take}
 use Rattle.spread_stage.specs.Months.{MonthsRise, total_size}
 use Rattle.spread_stage.specs.Spreads.{rests_after}
-use Rattle.spread_stage.specs.near.TierPlans.{leg_of}
 use Rattle.spread_stage.specs.near.TierSums.{AreSums}
 use Rattle.span_tables.specs.declared.limits.TheConstants.{MAX_UNITS}
+use Rattle.spread_stage.proofs.TierFormLemmas.{months_in}
 use Rattle.spread_stage.proofs.tier_sums.use_legs.Given as goal
 
 abbrev pub invariant-loop-leg : goal.invariant-loop-leg
 invariant-loop-leg l = record {
-  value : l.rests ≡ rests_after l.direction l.formed (map (leg_of l.tiers) (take l.leg-index l.legs)) l.fn.rests;
+  value : l.rests ≡ rests_after l.direction l.formed (months_in (take l.leg-index l.legs)) l.fn.rests;
   rise : MonthsRise l.rests;
   small : total_size l.rests ≤ MAX_UNITS;
   sums : AreSums l.tiers l.rests l.sums;
-  held : l.sums.held ≡ l.fn.sums.held;
 }

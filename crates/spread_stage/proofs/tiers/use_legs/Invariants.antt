@@ -1,7 +1,6 @@
 use Rattle.std.proofs.Common.{◌≡◌, ◌≤◌, take}
 use Rattle.spread_stage.specs.Months.{MonthsRise, total_size}
 use Rattle.spread_stage.specs.Spreads.{rests_after}
-use Rattle.spread_stage.specs.near.Places.{ArePlaces}
 use Rattle.span_tables.specs.declared.limits.TheConstants.{MAX_UNITS}
 use Rattle.spread_stage.proofs.tiers.use_legs.Given as goal
 
@@ -10,5 +9,4 @@ invariant-loop-leg l = record {
   value : l.rests ≡ rests_after l.direction l.formed (take l.leg-index l.legs) l.fn.rests;
   rise : MonthsRise l.rests;
   small : total_size l.rests ≤ MAX_UNITS;
-  at : ArePlaces l.places l.rests;
 }

@@ -7,4 +7,4 @@ pub loop-number-preserved : goal.loop-number-preserved
 loop-number-preserved c =
     let f = commodity_text c.args.row.now.set.tables c.args.row.now.portfolio in
     let n = c.loop-number.number in
-    c.in_ok-push_commodity_of.ensures ∙ ap (λ t. t ++ f n) c.loop-number.invariant ∙ numbered_more f c.args.out.now.items n
+    c.in_ok-push_if_held.ensures ∙ ap (λ t. t ++ f n) c.loop-number.invariant ∙ numbered_more f c.args.out.now.items n

@@ -7,19 +7,18 @@ use Rattle.scan_risk.specs.Scenarios.{scan_of, scenario_sums}
 use Rattle.spread_stage.specs.Charges.{delivery_charge}
 use Rattle.spread_stage.specs.Deltas.{month_deltas, net_delta}
 use Rattle.spread_stage.specs.Spreads.{after_spreads}
+use Rattle.spread_stage.specs.near.SetPlans.{IsByTiers}
 use Rattle.inter_credit.specs.OptionValue.{net_value_of}
 use Rattle.inter_credit.specs.Requirement.{minimum_of}
 use Rattle.plan_ir.specs.Figures.{commodity_at, deltas_at, no_commodity, tiers_at}
 use Rattle.step_scheduler.proofs.parts.part_of.Goals as goal
 
-pub run-requires-clause-tiers : goal.run-requires-clause-tiers
-run-requires-clause-tiers c = c.requires.plan.tiers
-
-pub run-requires-clause-known : goal.run-requires-clause-known
-run-requires-clause-known c = c.requires.plan.known
+pub run-requires-clause-plan : goal.run-requires-clause-plan
+run-requires-clause-plan c =
+    subst (λ ts. IsByTiers ts c.args.plan.now) (sym c.tiers_of.ensures.value) c.requires.plan.by_tiers
 
 pub run-requires-clause-intras : goal.run-requires-clause-intras
-run-requires-clause-intras c = subst (All IsIntra) (sym c.requires.plan.spreads_are) (c.known.ensures.intras_in_range _)
+run-requires-clause-intras c = subst (All IsIntra) (sym c.requires.plan.spreads) (c.known.ensures.intras_in_range _)
 
 pub returns-clause-part : goal.returns-clause-part
 returns-clause-part c = λ holdings is.
@@ -28,7 +27,7 @@ returns-clause-part c = λ holdings is.
     let commodity = c.index-commodities-commodity.result in
     let months : c.refill.new.self ≡ deltas_at t holdings i = c.in_ok-refill.ensures.ok ∙ ap month_deltas is in
     let tiers : c.run.new.self ≡ tiers_at t holdings i =
-    c.in_ok-run.ensures.value ∙ ap (λ (ss : List Intra). after_spreads ss c.refill.new.self) c.requires.plan.spreads_are
+    c.in_ok-run.ensures.value ∙ ap (λ (ss : List Intra). after_spreads ss c.refill.new.self) c.requires.plan.spreads
     ∙ ap (after_spreads _) months in
     let commodity_is : commodity ≡ commodity_at t i =
     c.index-commodities-commodity.is ∙ ap (λ cs. get_or cs i commodity) c.commodities.ensures.value

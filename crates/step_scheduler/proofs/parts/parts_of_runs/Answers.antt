@@ -13,7 +13,7 @@ use Rattle.step_scheduler.proofs.HeldLemmas.{next_of_run, no_run}
 use Rattle.step_scheduler.proofs.parts.parts_of_runs.Goals as goal
 
 pub loop-done-init : goal.loop-done-init
-loop-done-init c = record {
+loop-done-init g c = record {
   inside = omega arith;
   left = (
     0,
@@ -24,7 +24,7 @@ loop-done-init c = record {
 }
 
 pub of-held-requires : goal.of-held-requires
-of-held-requires c =
+of-held-requires g c =
     let t = c.args.tables.now in
     let hs = (c.args.portfolio.now).holdings in
     let sorted = c.args.holdings.now in
@@ -40,14 +40,14 @@ of-held-requires c =
     subst (AreHoldings t.contracts) (sym run.is) (are_holdings t hs (commodity_id t n) c.known.ensures c.known-2.ensures c.requires.fits)
 
 pub part_of-requires-clause-commodity : goal.part_of-requires-clause-commodity
-part_of-requires-clause-commodity c =
+part_of-requires-clause-commodity g c =
     let before = c.loop-done.invariant.left in
     c.commodity_of-commodity.ensures.known
     (first_known c.args.tables.now c.known.ensures (c.args.portfolio.now).holdings c.args.holdings.now before.0 c.loop-done.done before.2
     c.loop-done-test.true _)
 
 pub part_of-requires-clause-plan : goal.part_of-requires-clause-plan
-part_of-requires-clause-plan c =
+part_of-requires-clause-plan g c =
     let t = c.args.tables.now in
     let n = c.commodity_of-commodity.result in
     let before = c.loop-done.invariant.left in
@@ -57,7 +57,7 @@ part_of-requires-clause-plan c =
     subst (IsPlan t (commodity_id t n)) (sym c.index-plans-commodity.is) (c.requires.plans.each n known c.index-plans-commodity.result)
 
 pub loop-done-preserved : goal.loop-done-preserved
-loop-done-preserved c =
+loop-done-preserved g c =
     let t = c.args.tables.now in
     let hs = (c.args.portfolio.now).holdings in
     let sorted = c.args.holdings.now in
@@ -84,17 +84,18 @@ loop-done-preserved c =
         run.after,
         λ rest parts.
             let from = subst (λ m. ArePartsFrom t hs (m + 1) rest) (sym number) parts in
-            subst (ArePartsFrom t hs 0) (sym (ap (λ ps. ps ++ rest) c.in_ok-push.ensures.items
-            ∙ append_assoc c.loop-done.parts.items (part ∷ []) rest))
+            let pushed = c.in_ok-push.ensures.items ∙ ap (λ ps. ps ++ part ∷ []) c.part_of.ensures.parts in
+            subst (ArePartsFrom t hs 0) (sym (ap (λ ps. ps ++ rest) pushed
+            ∙ append_assoc c.loop-done.memory.parts.items (part ∷ []) rest))
             (before.3 (part ∷ rest) (next, c.in_ok-part.ensures.part hs (c.of-held.ensures ∙ of_run.1), from)),
       );
     }
 
 pub returns : goal.returns
-returns c =
+returns g c =
     let t = c.args.tables.now in
     let hs = (c.args.portfolio.now).holdings in
     let before = c.loop-done.invariant.left in
     let none = drop_all c.loop-done.done c.args.holdings.now c.loop-done-test.false in
     let end = no_run t hs before.0 c.known.ensures before.1 (subst (AreLeft t hs before.0) none before.2) in
-    subst (ArePartsFrom t hs 0) (append-nil c.loop-done.parts.items) (before.3 [] end)
+    subst (ArePartsFrom t hs 0) (append-nil c.loop-done.memory.parts.items) (before.3 [] end)

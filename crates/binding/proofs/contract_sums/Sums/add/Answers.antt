@@ -1,6 +1,6 @@
 use Rattle.std.proofs.Common.{◌≡◌, ◌<◌, ◌≤◌, ◌/◌, ◌∙◌, ap, sym, subst, get_or}
 use Rattle.std.proofs.Common.{set, length, arith, rules, SFits, pos, ℤ, ◌+ℤ◌, to_z, of_z}
-use Rattle.std.specs.Int.{w64, w128}
+use Rattle.std.specs.Int.{w32, w128}
 use Rattle.std.proofs.lemmas.Int.{to_z-of_z}
 use Rattle.std.proofs.lemmas.List.{set_past, length-set, get_or_default}
 use Rattle.binding.specs.near.Sums.{sums_of, AreMarks}
@@ -40,10 +40,10 @@ returns c =
     let before : ℤ = c.at.result in
     let before_fits : SFits w128 before = search rules in
     let more : ℤ = c.args.quantity in
-    let more_fits : SFits w64 more = search rules in
+    let more_fits : SFits w32 more = search rules in
     let amount : n ≡ get_or c.args.self.now c.args.number (pos 0) +ℤ more =
-    c.plus-sum.ensures ∙ ap (λ z. z +ℤ to_z w64 (of_z w64 more)) (to_z-of_z w128 before before_fits)
-    ∙ ap (λ z. before +ℤ z) (to_z-of_z w64 more more_fits)
+    c.plus-sum.ensures ∙ ap (λ z. z +ℤ to_z w32 (of_z w32 more)) (to_z-of_z w128 before before_fits)
+    ∙ ap (λ z. before +ℤ z) (to_z-of_z w32 more more_fits)
     ∙ ap (λ z. z +ℤ more) c.at.ensures in
     sums_set marks _ places c.args.number _ h
     (mark_set marks c.args.number c.index_mut.result.now word

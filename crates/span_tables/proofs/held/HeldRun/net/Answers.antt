@@ -24,7 +24,7 @@ returns-clause-value c =
     let h = get_or hs c.args.place nothing in
     let at = get_or_default hs c.args.place nothing h (omega (arith, long, c.requires)) in
     let kept = net_kept _ _ _ c.self.view_is c.self.invariant c.args.place c.requires h at in
-    let same : to_z w64 (of_z w64 h.net) ≡ h.net = omega (arith, ints, kept) in
+    let same : to_z w64 (of_z w64 c.from.result) ≡ h.net = omega (arith, ints, kept, c.from.ensures) in
     subst (λ n. IfSome (slice_get c.args.self.now c.args.place) (λ held. n ≡ held.net)) (sym same)
     (net_told _ _ _ c.self.view_is c.self.invariant c.args.place c.requires h at)
 
@@ -35,5 +35,5 @@ returns-clause-in_range c =
     let h = get_or hs c.args.place nothing in
     let at = get_or_default hs c.args.place nothing h (omega (arith, long, c.requires)) in
     let kept = net_kept _ _ _ c.self.view_is c.self.invariant c.args.place c.requires h at in
-    let same : to_z w64 (of_z w64 h.net) ≡ h.net = omega (arith, ints, kept) in
+    let same : to_z w64 (of_z w64 c.from.result) ≡ h.net = omega (arith, ints, kept, c.from.ensures) in
     subst (λ n. nat_abs n ≤ MAX_NET) (sym same) kept

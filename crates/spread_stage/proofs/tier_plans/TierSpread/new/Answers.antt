@@ -1,10 +1,10 @@
-use Rattle.std.proofs.Common.{◌≡◌, ◌<◌, ℕ, [], ◌∷◌, ◌++◌, sym, subst, ◌∙◌, ap, arith, get_or, length, List}
+use Rattle.std.proofs.Common.{◌≡◌, ◌<◌, sym, subst, ◌∙◌, ap, arith, get_or, length, List}
 use Rattle.std.specs.Prelude.{All, true}
 use Rattle.std.specs.List.{list_any}
 use Rattle.span_tables.specs.Tables.{has_months}
 use Rattle.span_tables.specs.declared.legs.MonthLeg.{MonthLeg}
 use Rattle.spread_stage.specs.near.TierPlans.{no_tier}
-use Rattle.spread_stage.proofs.TierPlanLemmas.{found, legs_more}
+use Rattle.spread_stage.proofs.TierPlanLemmas.{found, leg_known, legs_more}
 use Rattle.spread_stage.proofs.tier_plans.TierSpread.new.Goals as goal
 
 pub overflow_cast-number_of : goal.overflow_cast-number_of
@@ -17,12 +17,13 @@ overflow_cast-number_of c =
 
 pub loop-leg-preserved : goal.loop-leg-preserved
 loop-leg-preserved c =
-    let lt : c.loop-leg.leg-index < length c.args.intra.now.legs =
-    omega (arith, ap length c.legs-leg-items.ensures, c.loop-leg-test.true) in
-    let at : c.leg-item.result ≡ get_or c.args.intra.now.legs c.loop-leg.leg-index c.leg-item.result =
+    let legs = c.args.intra.now.legs in
+    let lt : c.loop-leg.leg-index < length legs = omega (arith, ap length c.legs-leg-items.ensures, c.loop-leg-test.true) in
+    let at : c.leg-item.result ≡ get_or legs c.loop-leg.leg-index c.leg-item.result =
     c.leg-item.is ∙ ap (λ (xs : List MonthLeg). get_or xs c.loop-leg.leg-index c.leg-item.result) c.legs-leg-items.ensures in
-    let more = legs_more c.args.tiers.now c.args.intra.now.legs _ _ c.loop-leg.leg-index _ c.leg-item.result c.requires.known lt at
-    c.number_of.ensures c.loop-leg.invariant.value c.loop-leg.invariant.known (c.push.ensures.items
-    ∙ ap (λ (r : ℕ). c.loop-leg.legs.items
-    ++ record { tier = c.number_of.result; side = c.leg-item.result.side; ratio = r } ∷ []) c.new.ensures) in
+    let some : list_any (has_months c.leg-item.result) c.args.tiers.now ≡ true =
+    rw at (c.requires.known c.loop-leg.leg-index c.leg-item.result lt) in
+    let more = legs_more c.args.tiers.now legs _ _ c.loop-leg.leg-index _ lt at
+    (leg_known c.args.tiers.now c.leg-item.result _ some c.number_of.ensures) c.loop-leg.invariant.value c.loop-leg.invariant.known
+    c.push.ensures.items in
     record { value = more.0; known = more.1 }

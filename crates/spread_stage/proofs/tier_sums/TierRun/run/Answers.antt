@@ -1,14 +1,19 @@
 use Rattle.std.proofs.Common.{◌≡◌, ◌++◌, List, ap, ◌∙◌, fold, map, rules, subst, sym}
 use Rattle.std.specs.Vec.{with_items}
 use Rattle.std.proofs.lemmas.List.{with_items_is}
-use Rattle.span_tables.specs.declared.records.Tier.{Tier}
 use Rattle.spread_stage.specs.Months.{Shrinks}
 use Rattle.spread_stage.specs.Spreads.{TierRests, after_spreads, spread_both_ways, unspread}
 use Rattle.spread_stage.specs.near.TierPlans.{intra_of}
 use Rattle.spread_stage.specs.declared.months.MonthUnits.{MonthUnits}
-use Rattle.spread_stage.specs.declared.tier_plans.TierSpread.{TierSpread}
+use Rattle.spread_stage.proofs.SetPlanLemmas.{tiers_are}
 use Rattle.spread_stage.proofs.SizeLemmas.{shrinks_none}
 use Rattle.spread_stage.proofs.tier_sums.TierRun.run.Goals as goal
+
+pub add_months-requires-clause-tiers : goal.add_months-requires-clause-tiers
+add_months-requires-clause-tiers c = tiers_are c.args.tiers.now c.requires.few c.requires.apart
+
+pub form_spreads-self-inside-requires-clause-tiers : goal.form_spreads-self-inside-requires-clause-tiers
+form_spreads-self-inside-requires-clause-tiers c = tiers_are c.args.tiers.now c.requires.few c.requires.apart
 
 pub returns-clause-value : goal.returns-clause-value
 unfolding after_spreads
@@ -18,14 +23,9 @@ returns-clause-value c =
     let start : c.deref_mut.result.now ≡ c.args.months.now =
     c.deref_mut.ensures.value ∙ c.in_ok-extend_from_slice.ensures.items
     ∙ ap (λ (xs : List MonthUnits). xs ++ c.as_slice-months.result.now) c.clear.ensures.items ∙ c.as_slice-months.ensures.value in
-    let plan = c.args.plan.now in
     ap (λ (rs : List MonthUnits). let t : TierRests = record { rests = rs; charge = c.form_spreads-self-inside.result } in t) same
     ∙ c.form_spreads-self-inside.ensures.value
-    ∙ ap (λ (ms : List MonthUnits). fold spread_both_ways (unspread ms) (map (intra_of c.deref-5.result.now) c.deref-6.result.now)) start
-    ∙ ap (λ (ts : List Tier). fold spread_both_ways (unspread c.args.months.now) (map (intra_of ts) c.deref-6.result.now))
-    c.deref-5.ensures.value
-    ∙ ap (λ (ss : List TierSpread). fold spread_both_ways (unspread c.args.months.now) (map (intra_of plan.tiers.items) ss))
-    c.deref-6.ensures.value
+    ∙ ap (λ (ms : List MonthUnits). fold spread_both_ways (unspread ms) (map intra_of c.args.plan.now.spreads.items)) start
 
 pub returns-clause-shrinks : goal.returns-clause-shrinks
 returns-clause-shrinks c =

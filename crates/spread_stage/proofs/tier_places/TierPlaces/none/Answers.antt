@@ -1,5 +1,0 @@
-use Rattle.spread_stage.proofs.KeptPlaces.{never_known}
-use Rattle.spread_stage.proofs.tier_places.TierPlaces.none.Goals as goal
-
-pub returns : goal.returns
-returns c = λ rests entry known d. absurd (never_known entry known)
