@@ -79,7 +79,7 @@ requirement_small scan intra delivery credit minimum =
 
 -- ---- states
 
-parts_size : (z : ℤ) → nat_abs z ≡ positive_part z + negative_part z
+pub parts_size : (z : ℤ) → nat_abs z ≡ positive_part z + negative_part z
 parts_size (pos n) = omega arith
 parts_size (negsuc n) = omega arith
 
@@ -118,7 +118,7 @@ state_stays bp before after small uses is = record {
 }
 
 -- the state of each commodity number is in range, even if no commodity has the number
-each_state : (states : List CommodityState) → All IsCommodityState states → (k : ℕ) → IsCommodityState (state_at states k)
+pub each_state : (states : List CommodityState) → All IsCommodityState states → (k : ℕ) → IsCommodityState (state_at states k)
 each_state [] all k = loaded_state (pos 0) 0 (omega arith) (omega arith)
 each_state (state ∷ states) all zero = All-head IsCommodityState state states all
 each_state (state ∷ states) all (suc k) = each_state states (All-tail IsCommodityState state states all) k

@@ -12,8 +12,8 @@ use Rattle.span_tables.specs.declared.sides.Direction.TheVariants.{ALong, AShort
 use Rattle.inter_credit.specs.Credits.{commodity_rooms, inter_formed_both, inter_formed_in, inter_one_way, rest_at}
 use Rattle.inter_credit.specs.declared.commodity_state.CommodityState.{CommodityState}
 use Rattle.inter_credit.proofs.StateLemmas.{rest_of_state}
-use Rattle.inter_credit.proofs.OpenLemmas.{some_of_some}
 use Rattle.inter_credit.proofs.RestLaws.{one_way_uses}
+use Rattle.span_tables.proofs.SideLemmas.{side_above}
 
 -- a delta on a leg's side with A long leaves no remaining delta on the leg's side with A short
 other_side : (on : Side) (before after : ℤ) → IsLeftOf before after → 0 < part_on (market_side ALong on) before
@@ -27,7 +27,7 @@ module _ (before after : List CommodityState) (left : (k : ℕ) → IsLeftOf (re
   none_of : (leg : CommodityLeg) → 0 < part_on (market_side ALong leg.side) (rest_at before leg.commodity) / leg.ratio
       → part_on (market_side AShort leg.side) (rest_at after leg.commodity) / leg.ratio ≡ 0
   none_of leg some =
-      let none = other_side leg.side _ _ (left leg.commodity) (some_of_some _ leg.ratio some) in
+      let none = other_side leg.side _ _ (left leg.commodity) (side_above _ leg.ratio some) in
       ap (λ n. n / leg.ratio) none ∙ zero-div leg.ratio
 
   none_with_a_short : (legs : List CommodityLeg) → 0 < spreads_formed (commodity_rooms ALong legs before)

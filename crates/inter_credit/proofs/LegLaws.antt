@@ -1,36 +1,22 @@
 -- A spread in a direction uses exactly what each leg needs of its commodity, and nothing of other commodities.
-use Rattle.std.proofs.Common.{◌≡◌, ◌≢◌, ◌+◌, ◌*◌, ◌-◌, ◌<◌, ◌≤◌, ◌==◌, ℕ, zero, suc, false, List, [], ◌∷◌, length, ℤ}
-use Rattle.std.proofs.Common.{pos, negsuc, neg_ℤ, refl, sym, ap, ◌∙◌, arith}
+use Rattle.std.proofs.Common.{◌≡◌, ◌≢◌, ◌+◌, ◌*◌, ◌-◌, ◌<◌, ◌≤◌, ◌==◌, ℕ, zero, suc, false, List, [], ◌∷◌, length}
+use Rattle.std.proofs.Common.{refl, sym, ap, ◌∙◌, arith}
 use Rattle.std.specs.List.{AllByRecursion, list_any}
-use Rattle.std.proofs.lemmas.Int.{ints}
-use Rattle.span_money.specs.Numbers.{negative_part}
 use Rattle.span_tables.specs.Accepted.{IsInter}
 use Rattle.span_tables.specs.Names.{has_repeat}
-use Rattle.span_tables.specs.Sides.{less_used, market_side, part_on, spreads_formed}
+use Rattle.span_tables.specs.Sides.{market_side, part_on, spreads_formed}
 use Rattle.span_tables.specs.declared.sides.Direction.{Direction}
 use Rattle.span_tables.specs.declared.sides.MarketSide.{MarketSide}
-use Rattle.span_tables.specs.declared.sides.MarketSide.TheVariants.{Long, Short}
 use Rattle.span_tables.specs.declared.records.CommodityLeg.{CommodityLeg}
 use Rattle.span_tables.specs.declared.records.Inter.{Inter}
 use Rattle.inter_credit.specs.Credits.{change_at, commodity_rooms, inter_one_way, leg_side, state_after, state_at}
 use Rattle.inter_credit.specs.Credits.{states_after, rest_at}
 use Rattle.inter_credit.specs.near.Rooms.{HaveRoom}
 use Rattle.inter_credit.specs.declared.commodity_state.CommodityState.{CommodityState}
-use Rattle.inter_credit.proofs.StateLemmas.{HaveRoom-rest, state_at-change_at, not_equal, or_left, or_right, rest_at-change_at}
+use Rattle.inter_credit.proofs.StateLemmas.{HaveRoom-rest, state_at-change_at, not_equal, rest_at-change_at}
 use Rattle.inter_credit.proofs.SpreadLemmas.{formed_have_room}
-
-part_of_neg : (n : ℕ) → negative_part (neg_ℤ (pos n)) ≡ n
-part_of_neg zero = refl
-part_of_neg (suc n) = refl
-
--- the used units and the remaining units of a market side sum to the side
-used_part : (on : MarketSide) (z : ℤ) (used : ℕ) → used ≤ part_on on z → part_on on (less_used on z used) + used ≡ part_on on z
-used_part Long (pos n) used le = let e : less_used Long (pos n) used ≡ pos (n - used) = omega (arith, ints, le) in rw e (omega arith)
-used_part Long (negsuc n) used le = let e : less_used Long (negsuc n) used ≡ negsuc n = omega (arith, ints, le) in rw e (omega arith)
-used_part Short (pos n) used le = let none : used ≤ 0 = le in omega arith
-used_part Short (negsuc n) used le =
-    let e : less_used Short (negsuc n) used ≡ neg_ℤ (pos (suc n - used)) = omega (arith, ints, le) in
-    rw e (rw (part_of_neg (suc n - used)) (omega arith))
+use Rattle.span_tables.proofs.SideLemmas.{used_part}
+use Rattle.std.proofs.lemmas.Bool.{or_parts}
 
 -- the side of a commodity falls by the units that were used
 side_falls : (on : MarketSide) (used basis_points i : ℕ) (states : List CommodityState) → i < length states
@@ -46,8 +32,8 @@ each_apart : (leg : CommodityLeg) (legs : List CommodityLeg) → list_any (λ b.
 each_apart leg [] e = tt
 each_apart leg (other ∷ legs) e =
     let rest = list_any (λ b. leg.commodity == b.commodity) legs in (
-      not_equal leg.commodity other.commodity (or_left (leg.commodity == other.commodity) rest e),
-      each_apart leg legs (or_right (leg.commodity == other.commodity) rest e),
+      not_equal leg.commodity other.commodity (or_parts (leg.commodity == other.commodity) rest e).0,
+      each_apart leg legs (or_parts (leg.commodity == other.commodity) rest e).1,
     )
 
 module _ (d : Direction) (n basis_points : ℕ) where
@@ -88,7 +74,7 @@ module _ (d : Direction) (n basis_points : ℕ) where
   legs_fall (leg ∷ legs) states room =
       let f : CommodityState → CommodityState = state_after (market_side d leg.side) (n * leg.ratio) basis_points in
       let apart = each_apart leg legs
-      (or_left (list_any (λ b. leg.commodity == b.commodity) legs) (has_repeat (λ a b. a.commodity == b.commodity) legs) room.apart) in
+      (or_parts (list_any (λ b. leg.commodity == b.commodity) legs) (has_repeat (λ a b. a.commodity == b.commodity) legs) room.apart).0 in
       let kept = rest_kept leg.commodity legs (after leg states) apart in
       let first = side_falls (market_side d leg.side) (n * leg.ratio) basis_points leg.commodity states
       (room.known 0 leg (omega arith)) (room.room 0 leg (omega arith)) in

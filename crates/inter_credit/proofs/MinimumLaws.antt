@@ -1,5 +1,5 @@
 -- The short option minimum counts short calls and short puts. The requirement is the larger of two numbers.
-use Rattle.std.proofs.Common.{◌≡◌, ℕ, ◌+◌, ◌*◌, ◌<◌, Bool, true, false, cond, ◌&&◌, List, [], ◌∷◌, max, filter, length, take}
+use Rattle.std.proofs.Common.{◌≡◌, ℕ, ◌+◌, ◌*◌, ◌<◌, ◌≤◌, Bool, true, false, cond, ◌&&◌, List, [], ◌∷◌, max, filter, length, take}
 use Rattle.std.proofs.Common.{get_or, sum_by, nat_abs, ℤ, pos, negsuc, ◌≤ℤ◌, ◌+ℤ◌, ◌-ℤ◌, refl, sym, ap, ◌∙◌, arith}
 use Rattle.std.specs.Prelude.{IfSome, int_lt, slice_get}
 use Rattle.std.specs.Int.{int_max}
@@ -12,6 +12,7 @@ use Rattle.span_tables.specs.Net.{HeldContract}
 use Rattle.span_tables.specs.declared.contracts.Terms.{Terms}
 use Rattle.span_tables.specs.near.Terms.{AreTermsOf}
 use Rattle.span_tables.specs.declared.records.ProductKind.{ProductKind}
+use Rattle.span_tables.specs.declared.records.ProductKind.TheVariants as product
 use Rattle.span_tables.proofs.HeldLemmas.{held_here}
 use Rattle.span_tables.specs.declared.records.MinimumMethod.TheVariants as method
 use Rattle.inter_credit.specs.Requirement.{is_call, is_put, minimum_of, requirement_of, short_count}
@@ -80,3 +81,9 @@ pub requirement_is_least : (scan intra delivery credit minimum : ℤ)
     → requirement_of scan intra delivery credit minimum ≤ℤ g)
 unfolding requirement_of
 requirement_is_least scan intra delivery credit minimum = larger_is_least (((scan +ℤ intra) +ℤ delivery) -ℤ credit) minimum
+
+-- a contract is not both a call and a put
+pub one_kind : (kind : ProductKind) (n : ℕ) → cond (is_call kind) n 0 + cond (is_put kind) n 0 ≤ n
+one_kind product.Future n = omega arith
+one_kind product.Call n = omega arith
+one_kind product.Put n = omega arith

@@ -2,7 +2,6 @@
 use Rattle.std.proofs.Common.{◌≡◌, ◌/◌, ◌<◌, ◌≤◌, ℕ, ℤ, nat_abs, pos, zero, suc, List, []}
 use Rattle.std.proofs.Common.{◌∷◌, length, set, refl, sym, ap, subst, ◌∙◌, arith}
 use Rattle.std.specs.List.{AllByRecursion}
-use Rattle.std.proofs.Math.Nat.{zero-div}
 use Rattle.span_tables.specs.Accepted.{IsInter}
 use Rattle.span_tables.specs.Sides.{IsLeftOf, market_side, part_on, spreads_formed}
 use Rattle.span_tables.specs.Slots.{IsMarked, IsOpenAt, numbers_on}
@@ -19,11 +18,7 @@ use Rattle.inter_credit.specs.near.Open.{AreOpen}
 use Rattle.span_tables.specs.declared.limits.TheConstants.{MAX_PRICE2, MAX_UNITS}
 use Rattle.inter_credit.proofs.StateLemmas.{rest_of_state}
 use Rattle.inter_credit.proofs.RestLaws.{both_ways_use}
-
--- a number with a quotient above 0 is above 0
-pub some_of_some : (x d : ℕ) → 0 < x / d → 0 < x
-some_of_some zero d some = absurd (omega (arith, some, zero-div d))
-some_of_some (suc x) d some = omega arith
+use Rattle.span_tables.proofs.SideLemmas.{side_above}
 
 -- if spreads are formed, each leg's commodity is marked
 pub legs_marked : (d : Direction) (sides : OpenSides) (states : List CommodityState) → AreOpen sides states → (legs : List CommodityLeg)
@@ -31,13 +26,13 @@ pub legs_marked : (d : Direction) (sides : OpenSides) (states : List CommoditySt
     → AllByRecursion (λ leg. IsMarked (numbers_on (market_side d leg.side) sides) leg.commodity) legs
 legs_marked d sides states open_sides [] some = tt
 legs_marked d sides states open_sides (leg ∷ []) some =
-    (open_sides leg.commodity (market_side d leg.side) (some_of_some _ leg.ratio some), tt)
+    (open_sides leg.commodity (market_side d leg.side) (side_above _ leg.ratio some), tt)
 legs_marked d sides states open_sides (leg ∷ next ∷ legs) some =
     let n : ℕ = spreads_formed (commodity_rooms d (next ∷ legs) states) in
     let fit : ℕ = part_on (market_side d leg.side) (rest_at states leg.commodity) / leg.ratio in
     let here : 0 < fit = omega (arith, some) in
     let others : 0 < n = omega (arith, some) in (
-      open_sides leg.commodity (market_side d leg.side) (some_of_some _ leg.ratio here),
+      open_sides leg.commodity (market_side d leg.side) (side_above _ leg.ratio here),
       legs_marked d sides states open_sides (next ∷ legs) others,
     )
 

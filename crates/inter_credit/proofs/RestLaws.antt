@@ -17,6 +17,7 @@ use Rattle.inter_credit.specs.States.{UsesState}
 use Rattle.inter_credit.specs.declared.commodity_state.CommodityState.{CommodityState}
 use Rattle.inter_credit.proofs.StateLemmas.{HaveRoom-rest, length-change_at}
 use Rattle.inter_credit.proofs.SpreadLemmas.{formed_have_room}
+use Rattle.span_tables.proofs.SideLemmas.{used_size}
 
 same_left : (z : ℤ) → IsLeftOf z z
 same_left z = record { long = omega arith; short = omega arith }
@@ -29,12 +30,6 @@ left_of_neg n zero le = record { long = omega arith; short = omega arith }
 left_of_neg zero (suc m) le = absurd (omega arith)
 left_of_neg (suc n) (suc m) le = record { long = omega arith; short = omega arith }
 
-size_of_neg : (n m used : ℕ) → m + used ≡ n → nat_abs (neg_ℤ (pos m)) + used ≡ nat_abs (neg_ℤ (pos n))
-size_of_neg zero zero used e = e
-size_of_neg zero (suc m) used e = absurd (omega arith)
-size_of_neg (suc n) zero used e = e
-size_of_neg (suc n) (suc m) used e = e
-
 -- a use that a remaining delta has room for leaves a part of it
 used_left : (on : MarketSide) (z : ℤ) (used : ℕ) → used ≤ part_on on z → IsLeftOf z (less_used on z used)
 used_left Long (pos n) used le =
@@ -46,15 +41,6 @@ used_left Short (pos n) used le = let e : less_used Short (pos n) used ≡ pos n
 used_left Short (negsuc n) used le =
     let e : less_used Short (negsuc n) used ≡ neg_ℤ (pos (suc n - used)) = omega (arith, ints, le) in
     rw e (left_of_neg (suc n) (suc n - used) (omega arith))
-
--- the used units and the new remaining delta sum to the old one in size
-used_size : (on : MarketSide) (z : ℤ) (used : ℕ) → used ≤ part_on on z → nat_abs (less_used on z used) + used ≡ nat_abs z
-used_size Long (pos n) used le = let e : less_used Long (pos n) used ≡ pos (n - used) = omega (arith, ints, le) in rw e (omega arith)
-used_size Long (negsuc n) used le = let e : less_used Long (negsuc n) used ≡ negsuc n = omega (arith, ints, le) in rw e (omega arith)
-used_size Short (pos n) used le = let none : used ≤ 0 = le in omega arith
-used_size Short (negsuc n) used le =
-    let e : less_used Short (negsuc n) used ≡ neg_ℤ (pos (suc n - used)) = omega (arith, ints, le) in
-    rw e (size_of_neg (suc n) (suc n - used) used (omega arith))
 
 same_state : (basis_points : ℕ) (state : CommodityState) → UsesState basis_points state state
 same_state bp state = record { net = refl; price2 = refl; rest = same_left state.rest; weight = refl }

@@ -1,6 +1,6 @@
 -- A change of one commodity's state, and its effect on the other states.
-use Rattle.std.proofs.Common.{◌≡◌, ◌≢◌, ◌+◌, ◌*◌, ◌<◌, ◌≤◌, ◌==◌, ◌||◌, ℕ, zero, suc, Bool, true}
-use Rattle.std.proofs.Common.{false, List, [], ◌∷◌, length, get_or, set, drop, refl, sym, ap, ◌∙◌, arith}
+use Rattle.std.proofs.Common.{◌≡◌, ◌≢◌, ◌+◌, ◌*◌, ◌<◌, ◌≤◌, ◌==◌, ℕ, zero, suc, Bool, List, length, get_or, drop, sym, ap, arith}
+use Rattle.std.proofs.Common.{false, [], ◌∷◌, set, refl, ◌∙◌}
 use Rattle.std.specs.List.{list_any}
 use Rattle.std.proofs.lemmas.Bool.Decides.{nat_tests}
 use Rattle.std.proofs.lemmas.List.{drop_more}
@@ -11,6 +11,7 @@ use Rattle.span_tables.specs.declared.records.CommodityLeg.{CommodityLeg}
 use Rattle.inter_credit.specs.Credits.{change_at, state_at, rest_at}
 use Rattle.inter_credit.specs.near.Rooms.{HaveRoom}
 use Rattle.inter_credit.specs.declared.commodity_state.CommodityState.{CommodityState}
+use Rattle.std.proofs.lemmas.Bool.{or_parts}
 
 -- a change at an index is a write at that index
 change_at_set : {A : Type 0} (f : A → A) (i : ℕ) (xs : List A) (d : A) → set xs i (f (get_or xs i d)) ≡ change_at f i xs
@@ -49,20 +50,12 @@ rest_at-change_at f i k states ne =
     rest_of_state (change_at f i states) k ∙ ap (λ (state : CommodityState). state.rest) (state_at-change_at f i k states ne)
     ∙ sym (rest_of_state states k)
 
-pub or_left : (a b : Bool) → (a || b) ≡ false → a ≡ false
-or_left true b e = e
-or_left false b e = refl
-
-pub or_right : (a b : Bool) → (a || b) ≡ false → b ≡ false
-or_right true b e = cc
-or_right false b e = e
-
 -- a test that no element passes fails at each index
 none_at : {A : Type 0} (p : A → Bool) (xs : List A) → list_any p xs ≡ false → (k : ℕ) (d : A) → k < length xs
     → p (get_or xs k d) ≡ false
 none_at p [] e k d lt = absurd (omega arith)
-none_at p (x ∷ xs) e zero d lt = or_left (p x) (list_any p xs) e
-none_at p (x ∷ xs) e (suc k) d lt = none_at p xs (or_right (p x) (list_any p xs) e) k d (omega arith)
+none_at p (x ∷ xs) e zero d lt = (or_parts (p x) (list_any p xs) e).0
+none_at p (x ∷ xs) e (suc k) d lt = none_at p xs (or_parts (p x) (list_any p xs) e).1 k d (omega arith)
 
 pub not_equal : (a b : ℕ) → (a == b) ≡ false → a ≢ b
 not_equal a b e = grind (arith, nat_tests)
@@ -79,9 +72,9 @@ HaveRoom-rest d n leg legs states f h =
           let ne : leg.commodity ≢ (get_or legs k e).commodity =
           not_equal leg.commodity (get_or legs k e).commodity
           (none_at other legs
-          (or_left (list_any other legs) (has_repeat (λ a b. a.commodity == b.commodity) legs) h.apart) k e lt) in
+          (or_parts (list_any other legs) (has_repeat (λ a b. a.commodity == b.commodity) legs) h.apart).0 k e lt) in
           rw (rest_at-change_at f leg.commodity (get_or legs k e).commodity states ne) (h.room (suc k) e (omega arith));
-      apart = or_right (list_any other legs) (has_repeat (λ a b. a.commodity == b.commodity) legs) h.apart;
+      apart = (or_parts (list_any other legs) (has_repeat (λ a b. a.commodity == b.commodity) legs) h.apart).1;
     }
 
 pub HaveRoom-drop : (d : Direction) (n : ℕ) (legs : List CommodityLeg) (i : ℕ) (leg : CommodityLeg) (states after : List CommodityState)

@@ -1,5 +1,5 @@
 //! The short option minimum, and the requirement of a commodity (docs/METHOD.md, Minimum and requirement).
-ghost use Rattle.std.specs.Prelude.{◌≡◌, ◌+◌, ◌*◌, ◌≤◌, ◌+ℤ◌, ◌-ℤ◌, pos, nat_abs};
+ghost use Rattle.std.specs.Prelude.{◌≡◌, ◌+◌, ◌*◌, ◌≤◌, ◌+ℤ◌, ◌-ℤ◌, pos, nat_abs, if◌then◌else◌};
 ghost use Rattle.span_money.specs.Numbers.{negative_part};
 ghost use Rattle.span_tables.specs.declared.limits.TheConstants.{MAX_HELD, MAX_NET, MAX_RATE};
 ghost use Rattle.inter_credit.specs.Requirement.{is_call, is_put, minimum_of, requirement_of, short_count, short_options};
@@ -17,7 +17,35 @@ fn short_part(net: i64) -> u64
     ensures value { result ≡ negative_part net }
     ensures bound { result ≤ nat_abs net }
 {
-    if net < 0 { net.unsigned_abs() } else { 0 }
+    net.min(0).unsigned_abs()
+}
+
+// Returns whether a contract is a call.
+fn is_call(kind: ProductKind) -> bool
+    ensures { result ≡ is_call kind }
+{
+    match kind {
+        ProductKind::Call => true,
+        ProductKind::Future | ProductKind::Put => false,
+    }
+}
+
+// Returns whether a contract is a put.
+fn is_put(kind: ProductKind) -> bool
+    ensures { result ≡ is_put kind }
+{
+    match kind {
+        ProductKind::Put => true,
+        ProductKind::Future | ProductKind::Call => false,
+    }
+}
+
+// Returns the number of short contracts if they count, or 0.
+#[inline(always)]
+fn short_if(counts: bool, short: u64) -> u64
+    ensures { result ≡ (if counts then short else 0) }
+{
+    u64::from(counts) * short
 }
 
 /// The number of short calls and the number of short puts, in contracts.
@@ -38,11 +66,9 @@ pub fn short_counts(held: &HeldRun<'_>) -> ShortCounts
     let mut puts = 0;
     for place in 0..held.len() {
         let short = short_part(held.net(place));
-        match held.terms(place).kind {
-            ProductKind::Future => {}
-            ProductKind::Call => calls += short,
-            ProductKind::Put => puts += short,
-        }
+        let kind = held.terms(place).kind;
+        calls += short_if(is_call(kind), short);
+        puts += short_if(is_put(kind), short);
     }
     ShortCounts { calls, puts }
 }

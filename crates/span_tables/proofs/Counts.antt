@@ -3,14 +3,12 @@ use Rattle.std.proofs.Common.{◌≡◌, ℕ, ◌≤◌, Bool, true, false, cond
 use Rattle.std.proofs.Common.{length, map, filter, refl, sym, ap, ◌∙◌, subst, arith, inl, inr}
 use Rattle.std.specs.Prelude.{◌||◌, bytes_eq, count_by, nat_le, IsPermutation}
 use Rattle.std.specs.List.{list_all, list_any}
-use Rattle.std.proofs.lemmas.Bool.{cases_Bool, leb-true}
+use Rattle.std.proofs.lemmas.Bool.{cases_Bool, leb-true, and_parts, or_parts}
 use Rattle.std.proofs.lemmas.List.{length-map}
 use Rattle.std.proofs.lemmas.List.Sorted.{sum_by-IsPermutation}
 use Rattle.std.proofs.lemmas.List.Sums.{length-filter}
 use Rattle.std.proofs.lemmas.Slice.Eq.{bytes_eq-Decides}
 use Rattle.span_tables.specs.near.Limits.{at_most_each}
-use Rattle.span_tables.proofs.KeptRules.{and_true}
-use Rattle.span_tables.proofs.Places.{or_false}
 
 module _ {X : Type 0} (key : X → List ℕ) where
   -- the number of elements that have a name
@@ -21,7 +19,7 @@ module _ {X : Type 0} (key : X → List ℕ) where
       → filter (λ x. bytes_eq (key x) id) xs ≡ []
   none_has id [] e = refl
   none_has id (x ∷ xs) e =
-      let h = or_false (bytes_eq (key x) id) (list_any (λ y. bytes_eq (key y) id) xs) e in rw h.0 (none_has id xs h.1)
+      let h = or_parts (bytes_eq (key x) id) (list_any (λ y. bytes_eq (key y) id) xs) e in rw h.0 (none_has id xs h.1)
 
   by_head : (b : Bool) (x : X) (id : List ℕ) (all : List X) (most : ℕ) (more : Bool) → bytes_eq (key x) id ≡ b
       → of_name (key x) all ≤ most → (b || more) ≡ true
@@ -34,7 +32,7 @@ module _ {X : Type 0} (key : X → List ℕ) where
       → of_name id all ≤ most
   one_has most id all [] few some = cc
   one_has most id all (x ∷ xs) few some =
-      let h = and_true _ _ few in
+      let h = and_parts _ _ few in
       by_head (bytes_eq (key x) id) x id all most (list_any (λ x. bytes_eq (key x) id) xs) refl (leb-true _ _ h.0) some
       (one_has most id all xs h.1)
 

@@ -9,7 +9,8 @@ use Rattle.std.proofs.Math.ListN.{replicate}
 use Rattle.std.proofs.lemmas.List.Elements.{filter-append}
 use Rattle.std.proofs.lemmas.Slice.Eq.{bytes_eq-Decides}
 use Rattle.span_tables.specs.Names.{has_repeat}
-use Rattle.span_tables.proofs.Places.{place, or_false}
+use Rattle.span_tables.proofs.Places.{place}
+use Rattle.std.proofs.lemmas.Bool.{or_parts}
 
 -- equality of names is symmetric
 pub name_sym : (a b : List ℕ) → bytes_eq a b ≡ bytes_eq b a
@@ -42,7 +43,7 @@ module _ {C X Y : Type 0} (id : C → List ℕ) (key : X → List ℕ) (f : X �
       → groups cs (xs ++ x ∷ []) ≡ groups cs xs
   groups_other x xs [] none = refl
   groups_other x xs (c ∷ cs) none =
-      let e = or_false (bytes_eq (key x) (id c)) (list_any (λ d. bytes_eq (key x) (id d)) cs) none in
+      let e = or_parts (bytes_eq (key x) (id c)) (list_any (λ d. bytes_eq (key x) (id d)) cs) none in
       let here : group (xs ++ x ∷ []) c ≡ group xs c = group_if false x xs c e.0 ∙ append-nil (group xs c) in
       let rest = groups_other x xs cs e.1 in
       λ i. here i ∷ rest i
@@ -75,7 +76,7 @@ module _ {C X Y : Type 0} (id : C → List ℕ) (key : X → List ℕ) (f : X �
       → groups cs (xs ++ x ∷ []) ≡ pushed (groups cs xs) (place id cs (key x)) (f x)
   groups_push [] xs x apart lt = absurd (omega arith)
   groups_push (c ∷ cs) xs x apart lt =
-      let e = or_false (list_any (λ d. bytes_eq (id c) (id d)) cs) (has_repeat (λ c d. bytes_eq (id c) (id d)) cs) apart in
+      let e = or_parts (list_any (λ d. bytes_eq (id c) (id d)) cs) (has_repeat (λ c d. bytes_eq (id c) (id d)) cs) apart in
       push_if (bytes_eq (id c) (key x)) x xs c cs refl e.0 (groups_push cs xs x e.1) lt
 
   -- the next element is appended to the list of its name; d is any element
@@ -94,13 +95,6 @@ module _ {C X Y : Type 0} (id : C → List ℕ) (key : X → List ℕ) (f : X �
   pub groups_none : (cs : List C) → replicate (length cs) [] ≡ groups cs []
   groups_none [] = refl
   groups_none (c ∷ cs) = ap (λ zs. [] ∷ zs) (groups_none cs)
-
-  -- the list at index k has the elements of the k-th name
-  pub groups_at : (cs : List C) (xs : List X) (k : ℕ) (d : C) → k < length cs
-      → get_or (groups cs xs) k [] ≡ group xs (get_or cs k d)
-  groups_at [] xs k d lt = absurd (omega arith)
-  groups_at (c ∷ cs) xs zero d lt = refl
-  groups_at (c ∷ cs) xs (suc k) d lt = groups_at cs xs k d (omega arith)
 
 pub at_map : {V W : Type 0} (f : V → W) (vs : List V) (n : ℕ) (d : V) (e : W) → n < length vs
     → get_or (map f vs) n e ≡ f (get_or vs n d)
@@ -159,14 +153,3 @@ module _ {C X : Type 0} (id : C → List ℕ) (key : X → List ℕ) where
 
   pub copies_none : (cs : List C) → replicate (length cs) [] ≡ map (λ c. filter (λ x. bytes_eq (key x) (id c)) []) cs
   copies_none cs = groups_none id key (λ x. x) cs
-
--- each list is as short as the lists that they are
-pub lists_few : {V W Y : Type 0} (items : V → List Y) (g : W → List Y) (lists : List V) (ws : List W) (most : ℕ)
-    → map items lists ≡ map g ws → ((w : W) → length (g w) ≤ most) → All (λ v. length (items v) ≤ most) lists
-lists_few items g lists [] most are few k v lt =
-    let none : length lists ≡ 0 = lengths items g lists [] are in absurd (omega (arith, none, lt))
-lists_few items g lists (w ∷ ws) most are few k v lt =
-    let long : length lists ≡ length (w ∷ ws) = lengths items g lists (w ∷ ws) are in
-    let same : items (get_or lists k v) ≡ g (get_or (w ∷ ws) k w) =
-    sym (at_map items lists k v [] lt) ∙ ap (λ zs. get_or zs k []) are ∙ at_map g (w ∷ ws) k w [] (omega (arith, lt, long)) in
-    subst (λ ys. length ys ≤ most) (sym same) (few (get_or (w ∷ ws) k w))

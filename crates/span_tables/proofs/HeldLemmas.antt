@@ -1,9 +1,9 @@
 -- The holdings of a commodity: each is of a contract that exists, has the contract's whole record, and is within the
 -- limits.
 use Rattle.std.proofs.Common.{◌≡◌, ℕ, ℤ, suc, zero, ◌<◌, ◌≤◌, Bool, true, false}
-use Rattle.std.proofs.Common.{cond, ltb, List, [], ◌∷◌, length}
+use Rattle.std.proofs.Common.{cond, ltb, pos, List, [], ◌∷◌, length}
 use Rattle.std.proofs.Common.{filter, get_or, Option, Some, None, refl, sym, ap, ◌∙◌, subst, arith}
-use Rattle.std.specs.Prelude.{◌&&◌, All, IfSome, bytes_eq, nat_abs, nat_lt, option_map, slice_get, unwrap_or}
+use Rattle.std.specs.Prelude.{All, IfSome, bytes_eq, nat_abs, nat_lt, option_map, slice_get, unwrap_or}
 use Rattle.std.specs.List.{cons_option, list_all}
 use Rattle.std.proofs.lemmas.Bool.Decides.{nat_tests}
 use Rattle.std.proofs.lemmas.List.Elements.{All-nil, All-cons, All-head, All-tail, All-filter}
@@ -18,17 +18,14 @@ use Rattle.span_tables.specs.declared.contracts.Terms.{Terms}
 use Rattle.span_tables.specs.near.Gathered.{commodity_held, holdings_in}
 use Rattle.span_tables.specs.near.Terms.{AreTermsOf, IsTerms}
 use Rattle.span_tables.proofs.TermLemmas.{terms_in_range}
-
-and_true : (a b : Bool) → (a && b) ≡ true → (a ≡ true) × (b ≡ true)
-and_true true b e = (refl, e)
-and_true false b e = cc
+use Rattle.std.proofs.lemmas.Bool.{and_parts}
 
 -- each holding is of a contract that exists
 pub all_known : (contracts : ℕ) (hs : List Holding) → list_all (λ h. nat_lt h.contract contracts) hs ≡ true
     → All (λ h. h.contract < contracts) hs
 all_known contracts [] all = All-nil (λ h. h.contract < contracts)
 all_known contracts (h ∷ hs) all =
-    let e = and_true _ _ all in
+    let e = and_parts _ _ all in
     let below : ltb h.contract contracts ≡ true = e.0 in
     All-cons (λ h. h.contract < contracts) h hs (grind (arith, nat_tests)) (all_known contracts hs e.1)
 
@@ -52,6 +49,10 @@ get_passes : {X : Type 0} (P : X → Type 0) (xs : List X) (k : ℕ) (x : X) →
 get_passes P [] k x all is = cc
 get_passes P (y ∷ ys) zero x all is = let same : y ≡ x = cc in subst P same (All-head P y ys all)
 get_passes P (y ∷ ys) (suc k) x all is = get_passes P ys k x (All-tail P y ys all) is
+
+-- what a look-up past the end gives
+abbrev pub nothing : Holding
+nothing = record { contract = 0; net = pos 0 }
 
 -- ---- holdings with their contracts' whole records
 

@@ -1,7 +1,7 @@
 -- Records that keep a rule: no record breaks it, and the consequences for the records of each kind.
 use Rattle.std.proofs.Common.{◌≡◌, ℕ, ◌+◌, Bool, true, false, List, [], ◌∷◌}
 use Rattle.std.proofs.Common.{◌++◌, length, Option, Some, None, refl, ap, ◌∙◌, subst}
-use Rattle.std.specs.Prelude.{All, MatchOption, filter_map, is_none, if◌then◌else◌, option_map, ◌||◌, ◌&&◌}
+use Rattle.std.specs.Prelude.{All, MatchOption, filter_map, is_none, if◌then◌else◌, option_map, ◌&&◌}
 use Rattle.std.specs.List.{AllByRecursion, cons_option, list_all, list_any}
 use Rattle.std.specs.Option.{option_to_list}
 use Rattle.std.proofs.lemmas.List.{append-nil}
@@ -10,14 +10,11 @@ use Rattle.span_tables.specs.Faults.{faults_after, first_fault_after, first_of}
 use Rattle.span_tables.specs.Names.{has_repeat}
 use Rattle.span_tables.specs.Rules.{first_breaking, is_and, keeps_rules, rules}
 use Rattle.span_tables.specs.declared.records.Record.{Record}
-use Rattle.span_tables.proofs.Places.{or_false}
-
-pub and_true : (a b : Bool) → (a && b) ≡ true → (a ≡ true) × (b ≡ true)
-and_true true b e = (refl, e)
-and_true false b e = cc
+use Rattle.std.proofs.lemmas.Bool.{and_parts, or_parts, or_from}
+pub use Rattle.std.proofs.lemmas.Bool.{and_parts as and_true}
 
 pub all_true : (a b c : Bool) → ((a && b) && c) ≡ true → (a ≡ true) × (b ≡ true) × (c ≡ true)
-all_true a b c e = let last = and_true (a && b) c e in let front = and_true a b last.0 in (front.0, front.1, last.1)
+all_true a b c e = let last = and_parts (a && b) c e in let front = and_parts a b last.0 in (front.0, front.1, last.1)
 
 -- no record breaks the rule, given the earlier records
 abbrev pub Unbroken : (List Record → Record → Bool) → List Record → List Record → Type 0
@@ -56,7 +53,7 @@ each_kept : (all : List Record) (tests : List (List Record → Record → Bool))
     → list_all (λ breaks. is_none (first_breaking (λ (at : ℕ). at) breaks all)) tests ≡ true → Kept all tests
 each_kept all [] e = tt
 each_kept all (breaks ∷ rest) e =
-    let h = and_true (is_none (first_breaking (λ (at : ℕ). at) breaks all))
+    let h = and_parts (is_none (first_breaking (λ (at : ℕ). at) breaks all))
     (list_all (λ b. is_none (first_breaking (λ (at : ℕ). at) b all)) rest) e in
     (rule_kept breaks all h.0, each_kept all rest h.1)
 
@@ -85,10 +82,7 @@ of_kind h P Q each (r ∷ rs) all = next_of P (h r) (filter_map h rs) (each r al
 
 pub none_any : {Y : Type 0} (p : Y → Bool) (ys : List Y) → list_any p ys ≡ false → All (λ y. p y ≡ false) ys
 none_any p [] e = All-nil (λ y. p y ≡ false)
-none_any p (y ∷ ys) e = let h = or_false (p y) (list_any p ys) e in All-cons (λ y. p y ≡ false) y ys h.0 (none_any p ys h.1)
-
-both_false : (a b : Bool) → a ≡ false → b ≡ false → (a || b) ≡ false
-both_false a b e f = rw (e, f) refl
+none_any p (y ∷ ys) e = let h = or_parts (p y) (list_any p ys) e in All-cons (λ y. p y ≡ false) y ys h.0 (none_any p ys h.1)
 
 pushed_all : {Y : Type 0} (P : Y → Type 0) (ys : List Y) (y : Y) → All P (ys ++ y ∷ []) → All P ys × P y
 pushed_all P [] y all = (All-nil P, All-head P y [] all)
@@ -119,7 +113,7 @@ module _ {Y : Type 0} (h : Record → Option Y) (alike : Y → Y → Bool) where
       let other : list_any (λ z. alike z y) (filter_map h before) ≡ false =
       subst (λ o. is_and o (λ y. list_any (λ z. alike z y) (filter_map h before)) ≡ false) is free in
       let none = none_any (λ z. alike z y) (filter_map h before) other in
-      (λ k d lt. both_false _ _ (none k d lt) (split.0 k d lt), both_false _ _ split.1 more.1)
+      (λ k d lt. or_from _ _ (none k d lt) (split.0 k d lt), or_from _ _ split.1 more.1)
 
   apart_behind : (before rs : List Record) → Unbroken repeats before rs → AreApart before (filter_map h rs)
   apart_behind before [] u = (λ k d lt. refl, refl)

@@ -3,7 +3,7 @@ use Rattle.std.proofs.Common.{◌≡◌, ℕ, ◌<◌, false, eqb}
 use Rattle.std.proofs.Common.{not, Option, List, [], ◌∷◌, length, map, refl, ap, ◌∙◌, arith}
 use Rattle.std.specs.Prelude.{All, MatchOption, ◌||◌, ◌==◌, bytes_eq, filter_map}
 use Rattle.std.specs.List.{AllByRecursion, list_any}
-use Rattle.std.proofs.lemmas.Bool.{not-false}
+use Rattle.std.proofs.lemmas.Bool.{not-false, or_parts}
 use Rattle.std.proofs.lemmas.List.Elements.{All-nil, All-cons, All-head, All-tail}
 use Rattle.span_tables.specs.Accepted.{commodity_number}
 use Rattle.span_tables.specs.Names.{has_repeat}
@@ -16,7 +16,7 @@ use Rattle.span_tables.specs.declared.records.InterLeg.{InterLeg}
 use Rattle.span_tables.specs.declared.records.Record.{Record}
 use Rattle.span_tables.specs.declared.records.Record.TheVariants as record_of
 use Rattle.span_tables.proofs.KeptRules.{of_kind}
-use Rattle.span_tables.proofs.Places.{name_at, or_false, place_key, place_names}
+use Rattle.span_tables.proofs.Places.{name_at, place_key, place_names}
 use Rattle.span_tables.proofs.TierLists.{position_known}
 
 -- a name is the name of a commodity
@@ -27,7 +27,7 @@ names_known : (cs : List Commodity) (names : List (List ℕ))
     → list_any (λ name. not (list_any (λ c. bytes_eq c.id name) cs)) names ≡ false → All (IsKnown cs) names
 names_known cs [] e = All-nil (IsKnown cs)
 names_known cs (name ∷ names) e =
-    let h = or_false (not (list_any (λ c. bytes_eq c.id name) cs)) (list_any (λ n. not (list_any (λ c. bytes_eq c.id n) cs)) names) e in
+    let h = or_parts (not (list_any (λ c. bytes_eq c.id name) cs)) (list_any (λ n. not (list_any (λ c. bytes_eq c.id n) cs)) names) e in
     All-cons (IsKnown cs) name names (position_known (λ c. bytes_eq c.id name) cs (not-false _ h.0)) (names_known cs names h.1)
 
 -- the commodities that a record names are known

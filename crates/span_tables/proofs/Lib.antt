@@ -3,6 +3,7 @@ pub mod SumLaws
 pub mod NetLaws
 pub mod OrderLaws
 pub mod SpreadLaws
+pub mod SideLemmas
 pub mod SlotLemmas
 pub mod LegIndexLemmas
 pub mod WordFolds

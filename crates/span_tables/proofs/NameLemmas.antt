@@ -12,7 +12,7 @@ pub same_name : (a b : List ℕ) → bytes_eq a b ≡ true → a ≡ b
 same_name a b e = (bytes_eq-Decides a b).0 e
 
 -- removing all names equal to `gone` does not change whether another name is in the list
-among_others : (gone a : List ℕ) (names : List (List ℕ)) → bytes_eq a gone ≡ false
+pub among_others : (gone a : List ℕ) (names : List (List ℕ)) → bytes_eq a gone ≡ false
     → is_among (filter (λ other. not (bytes_eq other gone)) names) a ≡ is_among names a
 among_others gone a [] apart = refl
 among_others gone a (x ∷ names) apart =

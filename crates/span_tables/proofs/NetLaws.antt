@@ -14,7 +14,7 @@ use Rattle.span_tables.specs.declared.portfolios.Holding.{Holding}
 use Rattle.span_tables.proofs.SumLaws.{int_sum_by-if}
 
 -- the element after a prefix
-get_behind : {A : Type 0} (front : List A) (x : A) (xs : List A) → slice_get (front ++ x ∷ xs) (length front) ≡ Some x
+pub get_behind : {A : Type 0} (front : List A) (x : A) (xs : List A) → slice_get (front ++ x ∷ xs) (length front) ≡ Some x
 get_behind [] x xs = refl
 get_behind (y ∷ front) x xs = get_behind front x xs
 

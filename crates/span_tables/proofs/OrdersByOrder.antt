@@ -3,7 +3,7 @@ use Rattle.std.proofs.Common.{◌≡◌, ◌∙◌, refl, sym, ap, inl, inr, ari
 use Rattle.std.proofs.Common.{List, [], ◌∷◌, length, get_or, map, subst}
 use Rattle.std.specs.Prelude.{bytes_eq, All}
 use Rattle.std.specs.List.{list_any, position_or_len}
-use Rattle.std.proofs.lemmas.Bool.{cases_Bool}
+use Rattle.std.proofs.lemmas.Bool.{cases_Bool, or_parts}
 use Rattle.std.proofs.lemmas.List.{get_or-map, length-map}
 use Rattle.std.proofs.lemmas.List.Elements.{All-map}
 use Rattle.std.proofs.lemmas.List.Folds.{list_any_at}
@@ -17,7 +17,7 @@ use Rattle.span_tables.proofs.GroupLemmas.{name_sym}
 use Rattle.span_tables.proofs.NameLaws.{distinct_once}
 use Rattle.span_tables.proofs.NameLemmas.{is_among-distinct}
 use Rattle.span_tables.proofs.NameLemmas as names
-use Rattle.span_tables.proofs.Places.{or_false, same_name}
+use Rattle.span_tables.proofs.Places.{same_name}
 
 -- the account at the index of an order's name
 abbrev at_place : List (List ℕ) → List (List ℕ) → List ℕ → List ℕ
@@ -50,7 +50,7 @@ all_places answer [] [] apart same is = refl
 all_places answer [] (a ∷ accounts) apart same is = absurd (omega (arith, same))
 all_places answer (o ∷ orders) [] apart same is = absurd (omega (arith, same))
 all_places answer (o ∷ orders) (a ∷ accounts) apart same is =
-    let once = or_false (list_any (bytes_eq o) orders) (has_repeat bytes_eq orders) apart in
+    let once = or_parts (list_any (bytes_eq o) orders) (has_repeat bytes_eq orders) apart in
     let here : answer o ≡ a = is o (rw (same_name o) refl) ∙ rw (same_name o) refl in
     let rest : map answer orders ≡ accounts =
     all_places answer orders accounts once.1 (omega (arith, same)) (λ order among.

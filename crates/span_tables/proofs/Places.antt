@@ -1,45 +1,33 @@
 -- The index of a name in a list of distinct names.
 use Rattle.std.proofs.Common.{◌≡◌, ℕ, suc, zero, ◌+◌, ◌<◌, Bool, true, false, cond, not, List, [], ◌∷◌}
-use Rattle.std.proofs.Common.{length, refl, sym, ap, ◌∙◌, subst, arith, get_or, eqb, ltb, ◌≤◌, Decides}
-use Rattle.std.specs.Prelude.{Option, Some, None, bytes_eq, unwrap_or, option_map, slice_get, ◌||◌}
+use Rattle.std.proofs.Common.{length, refl, sym, ap, ◌∙◌, arith, get_or, eqb, ltb, ◌≤◌, Decides}
+use Rattle.std.specs.Prelude.{Option, Some, None, bytes_eq, unwrap_or, option_map, slice_get}
 use Rattle.std.specs.List.{position, position_or_len, list_any}
-use Rattle.std.proofs.lemmas.List.Sums.{prefix_len-le-length}
+use Rattle.std.proofs.lemmas.List.Sums.{prefix_len-le-length, passes_at_first}
 use Rattle.std.proofs.lemmas.Bool.Decides.{same_from_decides, Decides-eqb, nat_tests}
 use Rattle.std.proofs.lemmas.Slice.Eq.{bytes_eq-Decides}
 use Rattle.span_tables.specs.Names.{has_repeat}
+use Rattle.std.proofs.lemmas.Bool.{or_parts}
 
 -- a name equals itself
 pub same_name : (name : List ℕ) → bytes_eq name name ≡ true
 same_name name = (bytes_eq-Decides name name).1 refl
-
-pub or_false : (a b : Bool) → (a || b) ≡ false → (a ≡ false) × (b ≡ false)
-or_false true b e = cc
-or_false false b e = (refl, e)
 
 module _ {C : Type 0} (key : C → List ℕ) where
   -- the index of the first element that has a name
   abbrev pub place : List C → List ℕ → ℕ
   place cs id = position_or_len (λ c. bytes_eq (key c) id) cs
 
-  key_step : (b : Bool) (c : C) (cs : List C) (id : List ℕ) (d : C) → bytes_eq (key c) id ≡ b
-      → (place cs id < length cs → key (get_or cs (place cs id) d) ≡ id)
-      → cond (not b) (1 + place cs id) 0 < length (c ∷ cs) → key (get_or (c ∷ cs) (cond (not b) (1 + place cs id) 0) d) ≡ id
-  key_step true c cs id d e more lt = (bytes_eq-Decides (key c) id).0 e
-  key_step false c cs id d e more lt =
-      let one : 1 + place cs id ≡ suc (place cs id) = omega arith in
-      subst (λ n. key (get_or (c ∷ cs) n d) ≡ id) (sym one) (more (omega arith))
-
   -- the element at a name's index has that name
   pub place_key : (cs : List C) (id : List ℕ) (d : C) → place cs id < length cs → key (get_or cs (place cs id) d) ≡ id
-  place_key [] id d lt = absurd (omega arith)
-  place_key (c ∷ cs) id d lt = key_step (bytes_eq (key c) id) c cs id d refl (place_key cs id d) lt
+  place_key cs id d lt = (bytes_eq-Decides _ id).0 (passes_at_first (λ c. bytes_eq (key c) id) cs d lt)
 
   -- no later element has the name of the first
   not_later : (name : List ℕ) (cs : List C) (k : ℕ) (d : C) → list_any (λ c. bytes_eq name (key c)) cs ≡ false → k < length cs
       → bytes_eq name (key (get_or cs k d)) ≡ false
   not_later name [] k d none lt = absurd (omega arith)
-  not_later name (c ∷ cs) zero d none lt = (or_false _ _ none).0
-  not_later name (c ∷ cs) (suc k) d none lt = not_later name cs k d (or_false _ _ none).1 (omega arith)
+  not_later name (c ∷ cs) zero d none lt = (or_parts _ _ none).0
+  not_later name (c ∷ cs) (suc k) d none lt = not_later name cs k d (or_parts _ _ none).1 (omega arith)
 
   -- the index of the name at k is k
   pub place_at : (cs : List C) (k : ℕ) (d : C) → has_repeat (λ x y. bytes_eq (key x) (key y)) cs ≡ false → k < length cs
@@ -47,9 +35,9 @@ module _ {C : Type 0} (key : C → List ℕ) where
   place_at [] k d apart lt = absurd (omega arith)
   place_at (c ∷ cs) zero d apart lt = rw (same_name (key c)) refl
   place_at (c ∷ cs) (suc k) d apart lt =
-      let no = not_later (key c) cs k d (or_false _ _ apart).0 (omega arith) in
+      let no = not_later (key c) cs k d (or_parts _ _ apart).0 (omega arith) in
       let more : place cs (key (get_or cs k d)) ≡ k =
-      place_at cs k d (or_false (list_any (λ y. bytes_eq (key c) (key y)) cs) _ apart).1 (omega arith) in
+      place_at cs k d (or_parts (list_any (λ y. bytes_eq (key c) (key y)) cs) _ apart).1 (omega arith) in
       let next : 1 + place cs (key (get_or cs k d)) ≡ suc k = omega (arith, more) in
       rw no next
 

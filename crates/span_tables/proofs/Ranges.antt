@@ -2,7 +2,7 @@
 use Rattle.std.proofs.Common.{◌≡◌, ℕ, ◌<◌, ◌≤◌, Bool, true, arith, Option, List, [], ◌∷◌, length, map, sym, subst}
 use Rattle.std.specs.Prelude.{All, MatchOption, filter_map, find, nat_abs, nat_le, option_map, unwrap_or}
 use Rattle.std.specs.List.{AllByRecursion, list_all}
-use Rattle.std.proofs.lemmas.Bool.{leb-true}
+use Rattle.std.proofs.lemmas.Bool.{leb-true, and_parts}
 use Rattle.std.proofs.lemmas.Bool.Decides.{Decides-eqb, nat_tests}
 use Rattle.std.proofs.lemmas.List.{length-map}
 use Rattle.std.proofs.lemmas.List.Elements.{All-nil, All-cons, All-head, All-map, All-weaker}
@@ -26,20 +26,20 @@ use Rattle.span_tables.specs.declared.records.ProductKind.TheVariants as product
 use Rattle.span_tables.specs.declared.records.SetRecord.{SetRecord}
 use Rattle.span_tables.specs.declared.records.Spot.{Spot}
 use Rattle.span_tables.specs.declared.records.Tier.{Tier}
-use Rattle.span_tables.proofs.KeptRules.{all_true, and_true, of_kind}
+use Rattle.span_tables.proofs.KeptRules.{all_true, of_kind}
 
 -- if all elements pass a test, each has the property that the test implies
 pub all_by : {X : Type 0} (p : X → Bool) (P : X → Type 0) → ((x : X) → p x ≡ true → P x) → (xs : List X)
     → list_all p xs ≡ true → All P xs
 all_by p P says [] e = All-nil P
-all_by p P says (x ∷ xs) e = let h = and_true (p x) (list_all p xs) e in All-cons P x xs (says x h.0) (all_by p P says xs h.1)
+all_by p P says (x ∷ xs) e = let h = and_parts (p x) (list_all p xs) e in All-cons P x xs (says x h.0) (all_by p P says xs h.1)
 
 pub by_recursion : {X : Type 0} (p : X → Bool) (xs : List X) → list_all p xs ≡ true → AllByRecursion (λ x. p x ≡ true) xs
 by_recursion p [] e = tt
-by_recursion p (x ∷ xs) e = let h = and_true (p x) (list_all p xs) e in (h.0, by_recursion p xs h.1)
+by_recursion p (x ∷ xs) e = let h = and_parts (p x) (list_all p xs) e in (h.0, by_recursion p xs h.1)
 
 within : (low high n : ℕ) → lies_within low high n ≡ true → (low ≤ n) × (n ≤ high)
-within low high n e = let h = and_true (nat_le low n) (nat_le n high) e in (leb-true low n h.0, leb-true n high h.1)
+within low high n e = let h = and_parts (nat_le low n) (nat_le n high) e in (leb-true low n h.0, leb-true n high h.1)
 
 -- ---- the records of each kind pass their tests
 
@@ -71,7 +71,7 @@ of_test of test pick rs e =
 -- ---- the consequences of the tests
 
 pub rate_within : (c : Commodity) → commodity_in_range c ≡ true → c.minimum_rate ≤ MAX_RATE
-rate_within c e = leb-true _ _ (and_true _ _ e).1
+rate_within c e = leb-true _ _ (and_parts _ _ e).1
 
 most_small : (kind : ProductKind) → most_option_value kind ≤ MAX_OPTION_VALUE
 most_small product.Future = omega arith
@@ -87,7 +87,7 @@ is_contract x e =
     let last = all_true _ _ _ e in
     let middle = all_true _ _ _ last.0 in
     record {
-      delta = leb-true _ _ (and_true _ _ middle.0).1;
+      delta = leb-true _ _ (and_parts _ _ middle.0).1;
       scale = (within _ _ _ middle.1).1;
       sixteen = (Decides-eqb _ _).0 middle.2;
       values = all_by _ (λ v. nat_abs v ≤ MAX_ARRAY_VALUE) (λ v le. leb-true _ _ le) x.values last.1;
@@ -101,9 +101,9 @@ is_intra tiers s e =
     let long : length (map (month_leg tiers s.commodity) s.legs.items) ≡ length s.legs.items =
     length-map s.legs.items (month_leg tiers s.commodity) in
     let ratios = all_by _ (λ leg. (1 ≤ leg.ratio) × (leg.ratio ≤ MAX_RATIO))
-    (λ leg t. within 1 MAX_RATIO leg.ratio (and_true _ _ t).1) s.legs.items last.2 in
+    (λ leg t. within 1 MAX_RATIO leg.ratio (and_parts _ _ t).1) s.legs.items last.2 in
     record {
-      rate = leb-true _ _ (and_true _ _ last.0).1;
+      rate = leb-true _ _ (and_parts _ _ last.0).1;
       at_least_two = subst (λ n. 2 ≤ n) (sym long) few.0;
       at_most_four = subst (λ n. n ≤ 4) (sym long) few.1;
       ratios_above = All-map (λ leg. 0 < leg.ratio) (month_leg tiers s.commodity) s.legs.items (λ k z lt. (ratios k z lt).0);
@@ -127,9 +127,9 @@ is_inter s e =
     let last = all_true _ _ _ e in
     let few : (2 ≤ length s.legs.items) × (length s.legs.items ≤ 4) = within _ _ _ last.1 in
     let ratios = all_by _ (λ leg. (1 ≤ leg.ratio) × (leg.ratio ≤ MAX_RATIO))
-    (λ leg t. within 1 MAX_RATIO leg.ratio (and_true _ _ t).1) s.legs.items last.2 in
+    (λ leg t. within 1 MAX_RATIO leg.ratio (and_parts _ _ t).1) s.legs.items last.2 in
     record {
-      basis_points = leb-true _ _ (and_true _ _ last.0).1;
+      basis_points = leb-true _ _ (and_parts _ _ last.0).1;
       at_least_two = few.0;
       at_most_four = few.1;
       ratios_above = λ k z lt. (ratios k z lt).0;
@@ -141,7 +141,7 @@ is_inter s e =
 first_profile : (ss : List SetRecord) → All (λ s. set_in_range s ≡ true) ss
     → unwrap_or (option_map (λ s. s.profile) (find (λ s. true) ss)) 1 ≤ MAX_PROFILE
 first_profile [] all = omega arith
-first_profile (s ∷ ss) all = (within 1 MAX_PROFILE s.profile (and_true _ _ (All-head (λ x. set_in_range x ≡ true) s ss all)).1).1
+first_profile (s ∷ ss) all = (within 1 MAX_PROFILE s.profile (and_parts _ _ (All-head (λ x. set_in_range x ≡ true) s ss all)).1).1
 
 pub profile_within : (rs : List Record) → list_all in_range rs ≡ true → profile_in rs ≤ MAX_PROFILE
 profile_within rs e = first_profile (filter_map as_set rs) (of_test as_set set_in_range (λ r p. p.0) rs e)

@@ -1,9 +1,6 @@
 -- The effect of marking a number's slot in a word.
-use Rattle.std.proofs.Common.{◌≡◌, ◌≢◌, ◌%◌, ◌^◌, ℕ, ℤ}
-use Rattle.std.proofs.Common.{pos, negsuc, ◌≤ℤ◌, refl, arith}
+use Rattle.std.proofs.Common.{◌≢◌, ◌%◌, ◌^◌, ℕ, arith}
 use Rattle.std.proofs.lemmas.Nat.Bits.{bit_at-lt, bit_at-pow_other, bit_at-pow_same, bit_at_or}
-use Rattle.std.proofs.lemmas.Int.{ints}
-use Rattle.span_money.specs.Numbers.{positive_part, negative_part}
 use Rattle.span_tables.specs.Slots.{IsMarked, with_slot}
 use Rattle.span_money.specs.declared.bits.TheConstants.{BITS}
 
@@ -21,15 +18,6 @@ marked_kept word number other h =
     let e = bit_at_or word (2 ^ (number % BITS)) (other % BITS) in
     let lt = bit_at-lt (2 ^ (number % BITS)) (other % BITS) in
     omega (arith, e, lt, h)
-
--- a remaining delta is on at most one side of the market
-pub not_long : (z : ℤ) → z ≤ℤ pos 0 → positive_part z ≡ 0
-not_long (pos n) below = omega (arith, ints, below)
-not_long (negsuc n) below = refl
-
-pub not_short : (z : ℤ) → pos 0 ≤ℤ z → negative_part z ≡ 0
-not_short (pos n) above = refl
-not_short (negsuc n) above = absurd (omega (arith, ints, above))
 
 -- a number of another slot is marked only if it was marked before
 pub marked_before : (word number other : ℕ) → other % BITS ≢ number % BITS → IsMarked (with_slot word number) other

@@ -61,7 +61,7 @@ module _ (t : AcceptedTables) (accepted : IsAccepted t) where
 
   pub are_tables : (terms : List Terms) (intras : List (List Intra)) (spots : List (List Spot)) (inters : List Inter)
       (tiers : List (List Tier))
-      → terms ≡ map (terms_of t.commodities t.tiers) t.contracts
+      → terms ≡ map (terms_of t.commodities) t.contracts
       → intras ≡ map (λ c. map (intra_spread t.tiers) (filter (λ s. bytes_eq s.commodity c.id) t.intra_records)) t.commodities
       → spots ≡ map (λ c. filter (λ s. bytes_eq s.commodity c.id) t.spots) t.commodities
       → inters ≡ map (inter_spread t.commodities) t.inter_records

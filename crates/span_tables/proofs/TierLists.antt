@@ -3,7 +3,7 @@ use Rattle.std.proofs.Common.{◌≡◌, ◌≢◌, ℕ, suc, zero, ◌+◌, ◌
 use Rattle.std.proofs.Common.{List, [], ◌∷◌, length, map, filter, get_or, refl, sym, ap, ◌∙◌, subst, arith}
 use Rattle.std.specs.Prelude.{◌&&◌, ◌||◌, ◌==◌, All, MatchOption, bytes_eq, filter_map}
 use Rattle.std.specs.List.{AllByRecursion, list_any, position_or_len}
-use Rattle.std.proofs.lemmas.Bool.{not-false}
+use Rattle.std.proofs.lemmas.Bool.{not-false, and_parts, or_parts, or_right}
 use Rattle.std.proofs.lemmas.Bool.Decides.{nat_tests}
 use Rattle.std.proofs.lemmas.List.Elements.{All-filter, All-map, All-weaker, filter_passes}
 use Rattle.std.proofs.lemmas.Slice.Eq.{bytes_eq-Decides}
@@ -17,8 +17,7 @@ use Rattle.span_tables.specs.declared.records.Record.{Record}
 use Rattle.span_tables.specs.declared.records.Record.TheVariants as record_of
 use Rattle.span_tables.specs.declared.records.Tier.{Tier}
 use Rattle.span_tables.specs.declared.legs.MonthLeg.{MonthLeg}
-use Rattle.span_tables.proofs.KeptRules.{and_true, none_any, of_kind}
-use Rattle.span_tables.proofs.Places.{or_false}
+use Rattle.span_tables.proofs.KeptRules.{none_any, of_kind}
 
 -- ---- for the users of the tiers of a commodity
 
@@ -53,11 +52,11 @@ pub tiers_disjoint : (tiers : List Tier) → has_repeat share_month tiers ≡ fa
 tiers_disjoint [] apart i j lt below other d m a b e f = absurd (omega arith)
 tiers_disjoint (t ∷ tiers) apart zero zero lt below other d m a b e f = other refl
 tiers_disjoint (t ∷ tiers) apart zero (suc j) lt below other d m a b e f =
-    first_disjoint t tiers j d m (or_false (list_any (share_month t) tiers) (has_repeat share_month tiers) apart).0 (omega arith) a b e f
+    first_disjoint t tiers j d m (or_parts (list_any (share_month t) tiers) (has_repeat share_month tiers) apart).0 (omega arith) a b e f
 tiers_disjoint (t ∷ tiers) apart (suc i) zero lt below other d m a b e f =
-    first_disjoint t tiers i d m (or_false (list_any (share_month t) tiers) (has_repeat share_month tiers) apart).0 (omega arith) e f a b
+    first_disjoint t tiers i d m (or_parts (list_any (share_month t) tiers) (has_repeat share_month tiers) apart).0 (omega arith) e f a b
 tiers_disjoint (t ∷ tiers) apart (suc i) (suc j) lt below other d m a b e f =
-    tiers_disjoint tiers (or_false (list_any (share_month t) tiers) (has_repeat share_month tiers) apart).1 i j (omega arith) (omega arith)
+    tiers_disjoint tiers (or_parts (list_any (share_month t) tiers) (has_repeat share_month tiers) apart).1 i j (omega arith) (omega arith)
     (λ same. other (ap suc same)) d m a b e f
 
 -- ---- the tiers of one commodity share no month
@@ -90,7 +89,7 @@ module _ (id : List ℕ) where
       → list_any (share_month t) (filter IsOfId tiers) ≡ false
   later_free t [] of none = refl
   later_free t (u ∷ tiers) of none =
-      let h = or_false (overlap t u) (list_any (overlap t) tiers) none in
+      let h = or_parts (overlap t u) (list_any (overlap t) tiers) none in
       later_if (IsOfId u) t u tiers refl of h.0 (later_free t tiers of h.1)
 
   apart_if : (b : Bool) (t : Tier) (tiers : List Tier) → IsOfId t ≡ b → list_any (overlap t) tiers ≡ false
@@ -103,14 +102,10 @@ module _ (id : List ℕ) where
   pub apart_of : (tiers : List Tier) → has_repeat overlap tiers ≡ false → has_repeat share_month (filter IsOfId tiers) ≡ false
   apart_of [] e = refl
   apart_of (t ∷ tiers) e =
-      let h = or_false (list_any (overlap t) tiers) (has_repeat overlap tiers) e in
+      let h = or_parts (list_any (overlap t) tiers) (has_repeat overlap tiers) e in
       apart_if (IsOfId t) t tiers refl h.0 (apart_of tiers h.1)
 
 -- ---- each leg has the months of a tier
-
-or_true : (a b : Bool) → b ≡ true → (a || b) ≡ true
-or_true true b e = refl
-or_true false b e = e
 
 same_months : (t : Tier) → ((t.first == t.first) && (t.last == t.last)) ≡ true
 same_months t = grind (arith, nat_tests)
@@ -126,13 +121,13 @@ module _ (id : List ℕ) (leg : IntraLeg) where
   other_first : (b : Bool) (m : MonthLeg) (t : Tier) (tiers : List Tier) → bytes_eq t.commodity id ≡ b → HasTier m tiers
       → list_any (has_months m) (cond b (t ∷ filter (λ u. bytes_eq u.commodity id) tiers) (filter (λ u. bytes_eq u.commodity id) tiers))
       ≡ true
-  other_first true m t tiers is more = or_true (has_months m t) _ more
+  other_first true m t tiers is more = or_right (has_months m t) _ more
   other_first false m t tiers is more = more
 
   leg_if : (b : Bool) (t : Tier) (tiers : List Tier) → IsItsTier t ≡ b → (b || list_any IsItsTier tiers) ≡ true
       → (list_any IsItsTier tiers ≡ true → HasTier (month_leg tiers id leg) tiers)
       → HasTier (month_leg (t ∷ tiers) id leg) (t ∷ tiers)
-  leg_if true t tiers is some more = rw (is, (and_true (bytes_eq t.commodity id) (t.number == leg.tier) is).0, same_months t) refl
+  leg_if true t tiers is some more = rw (is, (and_parts (bytes_eq t.commodity id) (t.number == leg.tier) is).0, same_months t) refl
   leg_if false t tiers is some more =
       rw is (other_first (bytes_eq t.commodity id) (month_leg tiers id leg) t tiers refl (more some))
 

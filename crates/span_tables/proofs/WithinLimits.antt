@@ -2,7 +2,7 @@
 use Rattle.std.proofs.Common.{◌≡◌, ◌<◌, ◌≤◌, true, false, List, [], length, map, sym, ◌∙◌, subst}
 use Rattle.std.specs.Prelude.{All, bytes_eq}
 use Rattle.std.specs.List.{AllByRecursion, list_all}
-use Rattle.std.proofs.lemmas.Bool.{leb-true}
+use Rattle.std.proofs.lemmas.Bool.{leb-true, and_parts}
 use Rattle.std.proofs.lemmas.List.{length-map}
 use Rattle.std.proofs.lemmas.List.Elements.{All-filter, All-map, All-weaker}
 use Rattle.std.proofs.lemmas.List.Sorted.{All-permutation, length_permutation}
@@ -23,7 +23,7 @@ use Rattle.span_tables.specs.declared.records.Record.{Record}
 use Rattle.span_tables.specs.declared.records.Spot.{Spot}
 use Rattle.span_tables.specs.declared.records.Tier.{Tier}
 use Rattle.span_tables.proofs.Counts.{at_most, at_most_permuted}
-use Rattle.span_tables.proofs.KeptRules.{all_kept, all_true, and_true, apart, of_each}
+use Rattle.span_tables.proofs.KeptRules.{all_kept, all_true, apart, of_each}
 use Rattle.span_tables.proofs.Known.{IsKnown, NamesKnown, all_known, contracts_known, inters_apart}
 use Rattle.span_tables.proofs.Known.{inters_known, intras_known, legs_apart, spots_known, tiers_known}
 use Rattle.span_tables.proofs.OrderLaws.{rising_permutation}
@@ -45,9 +45,9 @@ pub record IsReadable (rs : List Record) : Type 0 where
 pub readable : (rs : List Record) → is_readable rs ≡ true → IsReadable rs
 unfolding is_readable
 readable rs e =
-    let parts = all_true _ _ _ (and_true _ _ e).0 in
+    let parts = all_true _ _ _ (and_parts _ _ e).0 in
     let by_commodity = all_true _ _ _ parts.2 in
-    let with_tiers = and_true _ _ by_commodity.0 in
+    let with_tiers = and_parts _ _ by_commodity.0 in
     let counts = all_true _ _ _ with_tiers.0 in
     record {
       begins = parts.0;

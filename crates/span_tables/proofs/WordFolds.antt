@@ -6,7 +6,7 @@ use Rattle.std.specs.Prelude.{fold}
 use Rattle.std.proofs.lemmas.Bool.{cases_eq, cases_lt}
 use Rattle.std.proofs.lemmas.List.{take_all}
 use Rattle.std.proofs.lemmas.List.Sums.{fold_more}
-use Rattle.std.proofs.lemmas.Nat.Bits.{bit_at-lt, bit_at-zero}
+use Rattle.std.proofs.lemmas.Nat.Bits.{bit_at-zero}
 use Rattle.span_money.specs.near.Bits.{TakesFirst}
 
 -- the steps before `next` were taken, and `Nothing` is true of the elements after it that are not in the word
@@ -108,22 +108,6 @@ module _ {S E : Type 0} (step : S → E → S) (Nothing : S → E → Type 0) (c
         gone : (k : ℕ) → k < formed.next → (k ≡ first) ⊎ (k ≢ first) → bit_at left k ≡ 0
         gone k lt (inl same) = ap (bit_at left) same ∙ takes.taken.gone
         gone k lt (inr other) = takes.taken.kept k other ∙ formed.below k lt
-
-  -- numbers are removed from the word if `Nothing` is true of their elements
-  pub narrowed : (s : S) (word less : ℕ) → AreFormed step Nothing list start s word → ((k : ℕ) → bit_at less k ≤ bit_at word k)
-      → ((k : ℕ) (e : E) → k < length list → bit_at word k ≡ 1 → bit_at less k ≡ 0 → Nothing s (get_or list k e))
-      → AreFormed step Nothing list start s less
-  narrowed s word less formed smaller out = record {
-    next = formed.next;
-    so_far = formed.so_far;
-    below = λ k lt. omega (arith, formed.below k lt, smaller k);
-    nothing = λ k e le lt none. by k e le lt none (cases_eq (bit_at word k) 0);
-  }
-    where
-      by : (k : ℕ) (e : E) → formed.next ≤ k → k < length list → bit_at less k ≡ 0 → (bit_at word k ≡ 0) ⊎ (bit_at word k ≢ 0)
-          → Nothing s (get_or list k e)
-      by k e le lt none (inl out_of) = formed.nothing k e le lt out_of
-      by k e le lt none (inr some) = out k e lt (omega (arith, some, bit_at-lt word k)) none
 
   -- no number is left in the word
   pub all_formed : (s : S) (word : ℕ) → AreFormed step Nothing list start s word → word ≡ 0 → s ≡ fold step start list

@@ -1,16 +1,14 @@
 //! The contracts of a parameter set, each with its terms.
-ghost use Rattle.std.specs.Prelude.{◌≡◌, ◌<◌, ◌≤◌, All, IfOk, IfSome, List, filter, length, map, false, slice_get};
+ghost use Rattle.std.specs.Prelude.{◌≡◌, ◌<◌, ◌≤◌, All, IfOk, IfSome, length, map, false, slice_get};
 ghost use Rattle.span_tables.specs.Accepted.{IsContract, commodity_number};
 ghost use Rattle.span_tables.specs.Names.{has_repeat};
 ghost use Rattle.std.specs.Prelude.{bytes_eq};
-ghost use Rattle.span_tables.specs.declared.limits.TheConstants.{MAX_COMMODITIES, MAX_TIERS};
-ghost use Rattle.span_tables.specs.declared.records.Tier.{Tier};
-ghost use Rattle.std.specs.List.{position, position_or_len};
-ghost use Rattle.span_tables.specs.near.Terms.{AreTermsOf, has_month, number_at, numbered_terms, terms_of};
+ghost use Rattle.span_tables.specs.declared.limits.TheConstants.{MAX_COMMODITIES};
+ghost use Rattle.span_tables.specs.near.Terms.{AreTermsOf, number_at, numbered_terms, terms_of};
 
 use crate::groups::number_near;
 use crate::limits::SCENARIOS;
-use crate::records::{Commodity, Contract, ProductKind, Tier};
+use crate::records::{Commodity, Contract, ProductKind};
 use std::alloc::{AllocError, Global};
 use std::marker::Model;
 
@@ -28,18 +26,14 @@ pub struct Terms {
     pub option_value: u32,
     /// The commodity number.
     pub commodity: u8,
-    /// The number of the tier that the month is in, among the tiers of the commodity, or the number of these if it is in
-    /// none.
-    pub tier: u8,
     pub kind: ProductKind,
 }
 
-// Returns the terms of a contract of the commodity and of the tier with these numbers.
-fn numbered_terms(commodity: usize, tier: usize, contract: &Contract) -> Terms
+// Returns the terms of a contract of the commodity with this number.
+fn numbered_terms(commodity: usize, contract: &Contract) -> Terms
     requires commodity { commodity < MAX_COMMODITIES }
-    requires tier { tier ≤ MAX_TIERS }
     requires contract { IsContract contract.now }
-    ensures { result ≡ numbered_terms commodity tier contract.now }
+    ensures { result ≡ numbered_terms commodity contract.now }
 {
     Terms {
         values: contract.values,
@@ -47,7 +41,6 @@ fn numbered_terms(commodity: usize, tier: usize, contract: &Contract) -> Terms
         month: contract.month,
         option_value: contract.extras.option_value,
         commodity: commodity as u8,
-        tier: tier as u8,
         kind: contract.kind,
     }
 }
@@ -69,46 +62,23 @@ impl Model for Contracts {
     ghost invariant = { λ c. AreTerms c.records.items c.terms.items };
 }
 
-// Returns the index of the tier that a month (`yyyymm`) is in, if it is in one.
-fn place_in(tiers: &[Tier], month: u32) -> Option<usize>
-    ensures { result ≡ position (has_month month) tiers.now }
-{
-    tiers
-        .iter()
-        .position(|tier| tier.first <= month && month <= tier.last)
-}
-
-/// Returns the number of the tier that a month (`yyyymm`) is in, or the number of tiers if it is in none.
-#[tactic(auto, using(crate::proofs::Places::position_or_length))]
-pub fn tier_of(tiers: &[Tier], month: u32) -> usize
-    ensures { result ≡ position_or_len (has_month month) tiers.now }
-{
-    place_in(tiers, month).unwrap_or(tiers.len())
-}
-
-// Returns the terms of each contract. `tier_lists` has the tiers of each commodity.
+// Returns the terms of each contract.
 fn all_terms(
     alloc: Global,
     commodities: &[Commodity],
-    tier_lists: &[Vec<Tier>],
     contracts: &[Contract],
 ) -> Result<Vec<Terms>, AllocError>
     requires few { length commodities.now ≤ MAX_COMMODITIES }
     requires apart { has_repeat (λ c d. bytes_eq c.id d.id) commodities.now ≡ false }
     requires known { All (λ x. commodity_number commodities.now x.commodity < length commodities.now) contracts.now }
     requires in_range { All IsContract contracts.now }
-    requires every { length tier_lists.now ≡ length commodities.now }
-    requires few_tiers { All (λ v. length v.items ≤ MAX_TIERS) tier_lists.now }
-    ensures { IfOk result (λ terms. (tiers : List Tier)
-        → map (λ v. v.items) tier_lists.now ≡ map (λ c. filter (λ t. bytes_eq t.commodity c.id) tiers) commodities.now
-        → terms.items ≡ map (terms_of commodities.now tiers) contracts.now) }
+    ensures { IfOk result (λ terms. terms.items ≡ map (terms_of commodities.now) contracts.now) }
 {
     let mut terms = Vec::with_capacity(alloc, contracts.len())?;
     let mut number = 0;
     for contract in contracts {
         number = number_near(commodities, number, &contract.commodity);
-        let tier = tier_of(&tier_lists[number], contract.month);
-        terms.push(numbered_terms(number, tier, contract))?;
+        terms.push(numbered_terms(number, contract))?;
     }
     Ok(terms)
 }
@@ -118,23 +88,16 @@ impl Contracts {
     pub(crate) fn of(
         alloc: Global,
         commodities: &[Commodity],
-        tier_lists: &[Vec<Tier>],
         records: Vec<Contract>,
     ) -> Result<Contracts, AllocError>
         requires few { length commodities.now ≤ MAX_COMMODITIES }
         requires apart { has_repeat (λ c d. bytes_eq c.id d.id) commodities.now ≡ false }
         requires known { All (λ x. commodity_number commodities.now x.commodity < length commodities.now) records.items }
         requires in_range { All IsContract records.items }
-        requires every { length tier_lists.now ≡ length commodities.now }
-        requires few_tiers { All (λ v. length v.items ≤ MAX_TIERS) tier_lists.now }
-        requires tiers { (tiers : List Tier) × (map (λ v. v.items) tier_lists.now
-            ≡ map (λ c. filter (λ t. bytes_eq t.commodity c.id) tiers) commodities.now) }
         ensures records { IfOk result (λ contracts. contracts.records ≡ records.items) }
-        ensures terms { IfOk result (λ contracts. (tiers : List Tier)
-            → map (λ v. v.items) tier_lists.now ≡ map (λ c. filter (λ t. bytes_eq t.commodity c.id) tiers) commodities.now
-            → contracts.terms ≡ map (terms_of commodities.now tiers) records.items) }
+        ensures terms { IfOk result (λ contracts. contracts.terms ≡ map (terms_of commodities.now) records.items) }
     {
-        let terms = all_terms(alloc, commodities, tier_lists, &records)?;
+        let terms = all_terms(alloc, commodities, &records)?;
         Ok(Contracts { records, terms })
     }
 

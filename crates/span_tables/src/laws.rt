@@ -1,5 +1,5 @@
 //! Lemmas about the definitions, in the terms of the methodology. Each is the contract of a function that does nothing.
-ghost use Rattle.std.specs.Prelude.{false, true, ◌≡◌, ◌≢◌, ℕ, ◌%◌, ◌≤◌};
+ghost use Rattle.std.specs.Prelude.{false, ◌≡◌, ◌≢◌, ℕ, ◌%◌, ◌≤◌};
 ghost use Rattle.std.specs.Prelude.{List, ◌∷◌, filter, bytes_eq, IsPermutation, ℤ, pos};
 ghost use Rattle.span_money.specs.Numbers.{int_sum_by};
 ghost use Rattle.span_tables.specs.Laws.{FitsRooms, HaveRatios, IsRisingBy};

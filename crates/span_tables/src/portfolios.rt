@@ -1,9 +1,10 @@
 //! The holdings of accounts (docs/METHOD.md, "Positions").
-ghost use Rattle.std.specs.Prelude.{◌≡◌, ◌≤◌, length};
+ghost use Rattle.std.specs.Prelude.{◌≡◌, length, IfOk};
 ghost use Rattle.span_tables.specs.Holdings.{ArePortfolio, fits};
 
 use crate::name::Name;
 use crate::tables::Tables;
+use std::alloc::{AllocError, Global};
 use std::marker::Model;
 
 /// The number of a contract in the tables, with an account's net quantity in it, in contracts. A short quantity is
@@ -73,6 +74,14 @@ impl Portfolio {
     {
         fits_within(&self.holdings, tables.contracts().len())
     }
+}
+
+/// Returns a copy of a portfolio. Fails only if memory runs out.
+pub fn copied(alloc: Global, portfolio: &Portfolio) -> Result<Portfolio, AllocError>
+    ensures { IfOk result (λ copy. copy ≡ portfolio.now) }
+{
+    let holdings = Vec::from_slice(alloc, portfolio.holdings())?;
+    Ok(Portfolio::new(portfolio.account().copied(), holdings))
 }
 
 // Returns whether every holding has a contract number below `contracts`.

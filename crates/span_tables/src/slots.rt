@@ -1,14 +1,10 @@
 //! Sets of numbers of tiers or commodities, each in a 64-bit word. They can show that a number is not in a set.
-ghost use Rattle.std.specs.Int.{bit_at};
-ghost use Rattle.std.specs.Prelude.{◌≡◌, ◌≢◌, ◌==◌, ◌<◌, ◌%◌, ℕ, ℤ};
-ghost use Rattle.span_money.specs.declared.bits.TheConstants.{BITS};
-ghost use Rattle.span_tables.specs.Slots.{IsOpenAt, numbers_on, with_slot};
-ghost use Rattle.span_tables.specs.declared.sides.MarketSide.{MarketSide};
-ghost use Rattle.span_tables.specs.declared.slots.OpenSides.{OpenSides};
+ghost use Rattle.std.specs.Prelude.{◌≡◌, ◌<◌, ℕ, ℤ};
+ghost use Rattle.span_tables.specs.Slots.{IsMarked, IsOpenAt, with_slot};
 
-use crate::sides::MarketSide;
+use crate::sides::{MarketSide, part_on};
 use span_money::amounts::Units;
-use span_money::bits::{BITS, has, without};
+use span_money::bits::BITS;
 
 // Returns the set with one more number.
 #[inline(always)]
@@ -18,18 +14,13 @@ fn with(word: u64, number: usize) -> u64
     word | 1 << (number % BITS)
 }
 
-// Returns the set with or without a number.
+// Returns the set with one more number if the part of its remaining delta is above 0, or else as it is.
 #[inline(always)]
-fn set(word: u64, number: usize, is_open: bool) -> u64
-    requires { number < BITS }
-    ensures here { (bit_at result number == 1) ≡ is_open }
-    ensures others { (other : ℕ) → other ≢ number → bit_at result other ≡ bit_at word other }
+fn with_part(word: u64, number: usize, part: u64) -> u64
+    ensures added { 0 < part → IsMarked result number }
+    ensures kept { (other : ℕ) → IsMarked word other → IsMarked result other }
 {
-    if is_open {
-        word | 1 << number
-    } else {
-        without(word, number)
-    }
+    if part > 0 { with(word, number) } else { word }
 }
 
 /// The numbers that may have a remaining delta on the long side of the market, and on the short side. Each number has
@@ -51,64 +42,14 @@ impl OpenSides {
         OpenSides { long: 0, short: 0 }
     }
 
-    /// Returns the numbers that may have a remaining delta on a side of the market.
-    #[inline(always)]
-    pub fn on(&self, side: MarketSide) -> u64
-        ensures { result ≡ numbers_on side self.now }
-    {
-        match side {
-            MarketSide::Long => self.long,
-            MarketSide::Short => self.short,
-        }
-    }
-
     /// Returns the value with the remaining delta of one more number.
     pub fn with(self, number: usize, rest: Units) -> OpenSides
         ensures added { IsOpenAt result number rest }
         ensures kept { (other : ℕ) (z : ℤ) → IsOpenAt self other z → IsOpenAt result other z }
     {
-        let OpenSides { long, short } = self;
-        let units = rest.get();
-        if units > 0 {
-            return OpenSides {
-                long: with(long, number),
-                short,
-            };
-        }
-        if units < 0 {
-            return OpenSides {
-                long,
-                short: with(short, number),
-            };
-        }
-        self
-    }
-
-    /// Returns whether a side of a number may have a remaining delta.
-    #[inline(always)]
-    pub fn has(&self, on: MarketSide, number: usize) -> bool
-        ensures { result ≡ (bit_at (numbers_on on self.now) (number % BITS) == 1) }
-    {
-        has(self.on(on), number % BITS)
-    }
-
-    /// Returns the value in which a side of a number is marked, or not.
-    #[inline(always)]
-    pub fn marked(self, on: MarketSide, number: usize, is_open: bool) -> OpenSides
-        ensures here { (bit_at (numbers_on on result) (number % BITS) == 1) ≡ is_open }
-        ensures others { (side : MarketSide) (slot : ℕ) → (side ≡ on → slot ≡ number % BITS → ⊥)
-            → bit_at (numbers_on side result) slot ≡ bit_at (numbers_on side self) slot }
-    {
-        let word = set(self.on(on), number % BITS, is_open);
-        match on {
-            MarketSide::Long => OpenSides {
-                long: word,
-                short: self.short,
-            },
-            MarketSide::Short => OpenSides {
-                long: self.long,
-                short: word,
-            },
+        OpenSides {
+            long: with_part(self.long, number, part_on(MarketSide::Long, rest)),
+            short: with_part(self.short, number, part_on(MarketSide::Short, rest)),
         }
     }
 }

@@ -1,5 +1,5 @@
 //! The accepted tables of a parameter set.
-ghost use Rattle.std.specs.Prelude.{◌≡◌, ◌<◌, ◌≤◌, [], bytes_eq, length, map};
+ghost use Rattle.std.specs.Prelude.{◌≡◌, ◌<◌, ◌≤◌, [], length, map};
 ghost use Rattle.std.specs.Prelude.{slice_index_or, false, true, All, IfOk};
 ghost use Rattle.std.specs.Arc.{arc_value};
 ghost use Rattle.std.specs.List.{list_any};
@@ -129,7 +129,7 @@ impl Tables {
         let intras = intras_by_commodity(alloc, commodities, &tier_lists, spreads)?;
         let spot_months = spots_by_commodity(alloc, commodities, spots)?;
         let inters = inters_with_numbers(alloc, commodities, &kinds.inters)?;
-        let contracts = Contracts::of(alloc, commodities, &tier_lists, records)?;
+        let contracts = Contracts::of(alloc, commodities, records)?;
         let contracts = Arc::new(alloc, contracts)?;
         Ok(Tables {
             set_id,
@@ -220,27 +220,6 @@ impl Tables {
         ensures { result.now ≡ self.now.tiers }
     {
         &self.tiers
-    }
-
-    /// Returns the records of the intracommodity spreads of all commodities, by rising priority.
-    pub fn intra_records(&self) -> &[IntraRecord]
-        ensures { result.now ≡ self.now.intra_records }
-    {
-        &self.intra_records
-    }
-
-    /// Returns the spot months of all commodities, in file order.
-    pub fn spot_records(&self) -> &[Spot]
-        ensures { result.now ≡ self.now.spots }
-    {
-        &self.spots
-    }
-
-    /// Returns the records of the intercommodity spreads, by rising priority.
-    pub fn inter_records(&self) -> &[InterRecord]
-        ensures { result.now ≡ self.now.inter_records }
-    {
-        &self.inter_records
     }
 
     /// Returns the tiers of the commodity with this number, in file order. No two of them share a month.

@@ -1,5 +1,5 @@
 -- A spread that is not formed changes nothing, and no spread is formed without months.
-use Rattle.std.proofs.Common.{◌≡◌, ℕ, zero, suc, ◌+◌, ◌*◌, ◌/◌, ◌^◌, ◌<◌, List, [], ◌∷◌, refl, ap, ◌∙◌, arith, sum_by, fold}
+use Rattle.std.proofs.Common.{◌≡◌, ℕ, ◌+◌, ◌*◌, ◌^◌, List, [], ◌∷◌, refl, ap, ◌∙◌, arith, sum_by, fold}
 use Rattle.std.specs.Int.{div_ceil}
 use Rattle.std.proofs.Math.Nat.{zero-div}
 use Rattle.std.proofs.lemmas.List.Sums.{sum_by-cons}
@@ -13,10 +13,6 @@ use Rattle.spread_stage.specs.Charges.{delivery_charge, spot_charge}
 use Rattle.spread_stage.specs.Spreads.{TierRests, after_spreads, formed_in, spread_both_ways, spread_one_way, tier_rooms, unspread}
 use Rattle.spread_stage.specs.declared.months.MonthUnits.{MonthUnits}
 use Rattle.spread_stage.proofs.SpreadLemmas.{legs_none}
-
-pub side_above : (side ratio : ℕ) → 0 < side / ratio → 0 < side
-side_above zero ratio above = let none = zero-div ratio in absurd (omega (arith, none, above))
-side_above (suc n) ratio above = omega arith
 
 formed_of_nothing : (d : Direction) (legs : List MonthLeg) → spreads_formed (tier_rooms d legs []) ≡ 0
 formed_of_nothing d [] = refl

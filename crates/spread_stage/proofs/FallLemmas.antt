@@ -1,14 +1,11 @@
 -- How sides and remaining deltas fall when they are used.
-use Rattle.std.proofs.Common.{◌≡◌, ℕ, suc, ◌+◌, ◌-◌, ◌≤◌, min, Bool, true, false, cond, List, [], ◌∷◌, refl, ap}
+use Rattle.std.proofs.Common.{◌≡◌, ℕ, ◌+◌, ◌-◌, ◌≤◌, min, Bool, true, false, cond, List, [], ◌∷◌, refl}
 use Rattle.std.proofs.Common.{arith, map, sum_by, fold}
-use Rattle.std.specs.Prelude.{ℤ, pos, negsuc, ◌+ℤ◌, ◌-ℤ◌}
-use Rattle.std.proofs.lemmas.Int.{ints}
+use Rattle.std.specs.Prelude.{ℤ}
 use Rattle.std.proofs.lemmas.List.Sums.{sum_by-cons}
-use Rattle.span_money.specs.Numbers.{positive_part, negative_part}
 use Rattle.span_tables.specs.Sides.{part_on, less_used, spreads_formed}
 use Rattle.span_tables.specs.declared.sides.Direction.TheVariants.{ALong, AShort}
 use Rattle.span_tables.specs.declared.sides.MarketSide.{MarketSide}
-use Rattle.span_tables.specs.declared.sides.MarketSide.TheVariants.{Long, Short}
 use Rattle.span_tables.specs.declared.records.Intra.{Intra}
 use Rattle.span_tables.specs.declared.legs.MonthLeg.{MonthLeg}
 use Rattle.spread_stage.specs.Months.{MonthsRise, Shrinks}
@@ -18,32 +15,13 @@ use Rattle.spread_stage.specs.declared.months.MonthUnits.{MonthUnits}
 use Rattle.spread_stage.proofs.SizeLemmas.{shrinks_none}
 use Rattle.spread_stage.proofs.SpreadLemmas.{legs_shrink}
 use Rattle.spread_stage.proofs.UseLaws.{side-cons, weight, used_all, used_total}
-
-negative_left : (z : ℤ) (n u : ℕ) → z +ℤ pos n ≡ pos 0 → negative_part z ≡ n
-negative_left (pos k) n u e = omega (arith, ints, e)
-negative_left (negsuc k) n u e = omega (arith, ints, e)
-
-positive_left : (z : ℤ) (n : ℕ) → z ≡ pos n → positive_part z ≡ n
-positive_left z n e = ap positive_part e
-
--- on a side, what is left plus what was used is the part before
-part-less_used : (on : MarketSide) (z : ℤ) (u : ℕ) → u ≤ part_on on z → part_on on (less_used on z u) + u ≡ part_on on z
-part-less_used Long (pos n) u h =
-    let e : pos n -ℤ pos u ≡ pos (n - u) = omega (arith, ints, h) in
-    let p = positive_left (pos n -ℤ pos u) (n - u) e in omega (arith, h, p)
-part-less_used Long (negsuc n) u h =
-    let e : negsuc n -ℤ pos u ≡ negsuc n = omega (arith, ints, h) in
-    let p : positive_part (negsuc n -ℤ pos u) ≡ 0 = ap positive_part e in omega (arith, h, p)
-part-less_used Short (pos n) u h = omega (arith, h)
-part-less_used Short (negsuc n) u h =
-    let e : negsuc n +ℤ pos u +ℤ pos (suc n - u) ≡ pos 0 = omega (arith, ints, h) in
-    let p = negative_left (negsuc n +ℤ pos u) (suc n - u) u e in omega (arith, h, p)
+use Rattle.span_tables.proofs.SideLemmas.{used_part}
 
 weight_if : (on : MarketSide) (b : Bool) (z : ℤ) (x : ℕ)
     → cond b (part_on on (less_used on z (cond b (min (part_on on z) x) 0))) 0 + cond b (min (part_on on z) x) 0
     ≡ cond b (part_on on z) 0
 weight_if on true z x =
-    let within : min (part_on on z) x ≤ part_on on z = omega arith in part-less_used on z (min (part_on on z) x) within
+    let within : min (part_on on z) x ≤ part_on on z = omega arith in used_part on z (min (part_on on z) x) within
 weight_if on false z x = refl
 
 module _ (on : MarketSide) (leg : MonthLeg) (needed : ℕ) (rests : List MonthUnits) where

@@ -1,5 +1,5 @@
 -- Spreads that are left out: in each direction, a leg has nothing to use.
-use Rattle.std.proofs.Common.{◌≡◌, ℕ, zero, suc, ◌-◌, ◌%◌, ◌<◌, ◌≤◌, ◌==◌, ◌&&◌, Bool, true, false, cond, List, [], ◌∷◌}
+use Rattle.std.proofs.Common.{◌≡◌, ℕ, zero, suc, ◌-◌, ◌<◌, ◌≤◌, ◌==◌, ◌&&◌, Bool, true, false, cond, List, [], ◌∷◌}
 use Rattle.std.proofs.Common.{refl, sym, ap, ◌∙◌, subst, arith, get_or, length, map}
 use Rattle.std.specs.Int.{bit_at}
 use Rattle.std.specs.Prelude.{All, ℤ, nat_le, negsuc, pos}
@@ -7,10 +7,8 @@ use Rattle.std.proofs.lemmas.Bool.Decides.{nat_tests}
 use Rattle.std.proofs.lemmas.List.{length-map}
 use Rattle.std.proofs.lemmas.List.Elements.{All-cons, All-nil}
 use Rattle.std.proofs.lemmas.Nat.Bits.{bit_at-lt}
-use Rattle.span_money.specs.declared.bits.TheConstants.{BITS}
 use Rattle.span_tables.specs.Accepted.{IsIntra}
 use Rattle.span_tables.specs.Sides.{market_side, part_on, spreads_formed}
-use Rattle.span_tables.specs.Slots.{numbers_on}
 use Rattle.span_tables.specs.declared.leg_index.Found.{Found}
 use Rattle.span_tables.specs.declared.leg_index.LegAt.{LegAt}
 use Rattle.span_tables.specs.declared.leg_index.LegIndex.{LegIndex}
@@ -22,21 +20,23 @@ use Rattle.span_tables.specs.declared.sides.Direction.TheVariants.{ALong, AShort
 use Rattle.span_tables.specs.declared.sides.MarketSide.{MarketSide}
 use Rattle.span_tables.specs.declared.sides.MarketSide.TheVariants.{Long, Short}
 use Rattle.span_tables.specs.declared.sides.Side.TheVariants as side
+use Rattle.span_tables.specs.declared.slots.OpenSides.{OpenSides}
 use Rattle.span_tables.specs.near.LegIndex.{HasEnds, IsOpenLeg, found_in}
 use Rattle.span_tables.proofs.GroupLemmas.{at_map}
 use Rattle.spread_stage.specs.Months.{IsPartOf, Shrinks}
 use Rattle.spread_stage.specs.Spreads.{TierRests, is_in_tier, spread_both_ways, spread_one_way, tier_rooms, tier_side}
 use Rattle.spread_stage.specs.near.SetPlans.{IsByTiers}
 use Rattle.spread_stage.specs.near.TierPlans.{AreKnown, IsIndexed, IsKnown, intra_of, leg_at}
-use Rattle.spread_stage.specs.near.TierSums.{AreSums, IsClosed, no_sum, sum_on}
+use Rattle.spread_stage.specs.near.TierSums.{AreOpen, AreSums, IsClosed, sum_of}
 use Rattle.spread_stage.specs.declared.months.MonthUnits.{MonthUnits}
 use Rattle.spread_stage.specs.declared.tier_plans.TierLeg.{TierLeg}
 use Rattle.spread_stage.specs.declared.tier_plans.TierPlan.{TierPlan}
 use Rattle.spread_stage.specs.declared.tier_plans.TierSpread.{TierSpread}
 use Rattle.spread_stage.specs.declared.tier_sums.TierSums.{TierSums}
-use Rattle.spread_stage.proofs.ClosedLemmas.{one_way_none, side_above}
+use Rattle.spread_stage.proofs.ClosedLemmas.{one_way_none}
 use Rattle.spread_stage.proofs.TierSumLemmas.{side_of_tier}
 use Rattle.spread_stage.proofs.UseLaws.{side-cons, weight}
+use Rattle.span_tables.proofs.SideLemmas.{side_above}
 
 -- the leg has something to use in a direction
 abbrev pub HasSome : Direction → List MonthUnits → MonthLeg → Type 0
@@ -116,20 +116,13 @@ still_closed d before after s shrinks out some =
 no_leg : TierLeg
 no_leg = record { months = record { first = 0; last = 0; side = side.A; ratio = 0 }; tier = 0 }
 
-open_if : (bit sum : ℕ) → 0 < cond (bit == 1) sum 0 → bit ≡ 1
-open_if bit sum above = by (bit == 1) refl above
-  where
-    by : (b : Bool) → (bit == 1) ≡ b → 0 < cond b sum 0 → bit ≡ 1
-    by true e some = grind (arith, nat_tests, e)
-    by false e some = absurd (omega (arith, some))
-
-module _ (tiers : List Tier) (rests : List MonthUnits) (sums : TierSums) (are : AreSums tiers rests sums) (s : TierSpread)
-    (known : AreKnown tiers s) where
+module _ (tiers : List Tier) (rests : List MonthUnits) (sums : TierSums) (are : AreSums tiers rests sums)
+    (sides : OpenSides) (opened : AreOpen tiers sums sides) (s : TierSpread) (known : AreKnown tiers s) where
   abbrev legs : List TierLeg
   legs = s.legs.items
 
   leg_open : (d : Direction) → All (HasSome d rests) (intra_of s).legs → (k : ℕ) → k < length legs
-      → IsOpenLeg sums.open_sides d (leg_at (get_or legs k no_leg))
+      → IsOpenLeg sides d (leg_at (get_or legs k no_leg))
   leg_open d some k lt =
       let leg : TierLeg = get_or legs k no_leg in
       let on : MarketSide = market_side d leg.months.side in
@@ -137,13 +130,12 @@ module _ (tiers : List Tier) (rests : List MonthUnits) (sums : TierSums) (are : 
       let above : HasSome d rests leg.months =
       subst (HasSome d rests) (at_map (λ (x : TierLeg). x.months) legs k no_leg no_leg.months lt)
       (some k no_leg.months (subst (λ n. k < n) (sym (length-map legs (λ (x : TierLeg). x.months))) lt)) in
-      let sum = sum_on on (get_or sums.sums leg.tier no_sum) in
-      let bit = bit_at (numbers_on on sums.open_sides) (leg.tier % BITS) in
-      let here : cond (bit == 1) sum 0 ≡ tier_side rests on leg.months = are leg.tier is.within on ∙ side_of_tier tiers leg is rests on in
-      open_if bit sum (omega (arith, above, here))
+      let here : sum_of sums on leg.tier ≡ tier_side rests on leg.months =
+      are.sums leg.tier is.within on ∙ side_of_tier tiers leg is rests on in
+      opened leg.tier is.within on (omega (arith, above, here))
 
   pub not_found : (index : LegIndex) (number : ℕ) (d : Direction) → 0 < length legs → IsIndexed index number legs
-      → ((f l : LegAt) → HasEnds index number f l → IsOpenLeg sums.open_sides d f → IsOpenLeg sums.open_sides d l → ⊥)
+      → ((f l : LegAt) → HasEnds index number f l → IsOpenLeg sides d f → IsOpenLeg sides d l → ⊥)
       → IsClosed d rests (intra_of s)
   not_found index number d above indexed none some =
       none _ _ (indexed no_leg) (leg_open d some 0 above) (leg_open d some (length legs - 1) (omega (arith, above)))
@@ -188,13 +180,14 @@ formed_alone t after s true false is long short less e =
 formed_alone t after s false a_short is long short less e = is ∙ sym (one_way_alone t s (long refl))
 
 -- the spreads of a plan that the index does not find in a direction are closed in it
-pub all_closed : (tiers : List Tier) (rests : List MonthUnits) (sums : TierSums) → AreSums tiers rests sums → (plan : TierPlan)
-    → IsByTiers tiers plan → All IsIntra (map intra_of plan.spreads.items) → (found : Found)
+pub all_closed : (tiers : List Tier) (rests : List MonthUnits) (sums : TierSums) → AreSums tiers rests sums
+    → (sides : OpenSides) → AreOpen tiers sums sides → (plan : TierPlan) → IsByTiers tiers plan
+    → All IsIntra (map intra_of plan.spreads.items) → (found : Found)
     → ((number : ℕ) (f l : LegAt) → HasEnds plan.index number f l → (d : Direction) → bit_at (found_in d found) number ≡ 0
-    → IsOpenLeg sums.open_sides d f → IsOpenLeg sums.open_sides d l → ⊥)
+    → IsOpenLeg sides d f → IsOpenLeg sides d l → ⊥)
     → (k : ℕ) (e : TierSpread) (d : Direction) → k < length plan.spreads.items → bit_at (found_in d found) k ≡ 0
     → IsClosed d rests (intra_of (get_or plan.spreads.items k e))
-all_closed tiers rests sums are plan by intras found none k e d lt out =
+all_closed tiers rests sums are sides opened plan by intras found none k e d lt out =
     let s = get_or plan.spreads.items k e in
-    not_found tiers rests sums are s (by.known k e lt) plan.index k d (some_legs s (intra_at plan.spreads.items intras k e lt))
+    not_found tiers rests sums are sides opened s (by.known k e lt) plan.index k d (some_legs s (intra_at plan.spreads.items intras k e lt))
     (by.indexed k e lt) (λ f l has. none k f l has d out)

@@ -4,7 +4,6 @@ pub mod DeltaLemmas
 pub mod ForwardLemmas
 pub mod GatherLemmas
 pub mod UseLemmas
-pub mod MonthPlaces
 pub mod SizeLemmas
 pub mod SpreadLemmas
 pub mod FallLemmas
@@ -19,3 +18,4 @@ pub mod TierStartLemmas
 pub mod TierNumberLemmas
 pub mod LeftOutLemmas
 pub mod SetPlanLemmas
+pub mod SpotLemmas

@@ -5,9 +5,10 @@ use Rattle.std.proofs.lemmas.Bool.Decides.{nat_tests}
 use Rattle.std.proofs.lemmas.List.{get_or_append_left, get_or_push, length-append}
 use Rattle.span_tables.specs.Names.{has_repeat}
 use Rattle.span_tables.specs.Rules.{share_month}
-use Rattle.span_tables.specs.Tables.{AcceptedTables, commodity_id, intras_of, tiers_of}
+use Rattle.span_tables.specs.Tables.{AcceptedTables, commodity_id, intras_of, spots_of, tiers_of}
 use Rattle.span_tables.specs.declared.limits.TheConstants.{MAX_TIERS}
 use Rattle.span_tables.specs.declared.records.Intra.{Intra}
+use Rattle.span_tables.specs.declared.records.Spot.{Spot}
 use Rattle.span_tables.specs.declared.records.Tier.{Tier}
 use Rattle.span_tables.proofs.TierLists.{tiers_disjoint}
 use Rattle.spread_stage.specs.near.SetPlans.{IsPlan, IsPlanOf}
@@ -15,7 +16,7 @@ use Rattle.spread_stage.specs.near.TierPlans.{no_tier}
 use Rattle.spread_stage.specs.near.TierSums.{AreTiers}
 use Rattle.spread_stage.specs.declared.tier_plans.TierPlan.{TierPlan}
 
--- tiers within their limit, no two of which share a month
+-- tiers within their limit, and no two of them share a month
 pub tiers_are : (tiers : List Tier) → length tiers ≤ MAX_TIERS → has_repeat share_month tiers ≡ false → AreTiers tiers
 tiers_are tiers few apart = record {
   few = few;
@@ -29,11 +30,12 @@ pub record AreFirstPlans (t : AcceptedTables) (count : ℕ) (plans : List TierPl
   pub every : length plans ≡ count
   pub each : (c : ℕ) → c < count → (d : TierPlan) → IsPlan t (commodity_id t c) (get_or plans c d)
 
--- the plan of a commodity was made from its tiers and spreads
-pub plan_made : (t : AcceptedTables) (id : List ℕ) (plan : TierPlan) (tiers : List Tier) (intras : List Intra)
-    → tiers ≡ tiers_of t id → intras ≡ intras_of t id → IsPlanOf tiers intras plan → IsPlan t id plan
-plan_made t id plan tiers intras are is made =
-    subst (λ xs. IsPlanOf (tiers_of t id) xs plan) is (subst (λ ts. IsPlanOf ts intras plan) are made)
+-- the plan of a commodity was made from its tiers, spreads and spot months
+pub plan_made : (t : AcceptedTables) (id : List ℕ) (plan : TierPlan) (tiers : List Tier) (intras : List Intra) (spots : List Spot)
+    → tiers ≡ tiers_of t id → intras ≡ intras_of t id → spots ≡ spots_of t id → IsPlanOf tiers intras spots plan → IsPlan t id plan
+plan_made t id plan tiers intras spots first second third made =
+    subst (λ ss. IsPlanOf (tiers_of t id) (intras_of t id) ss plan) third
+    (subst (λ xs. IsPlanOf (tiers_of t id) xs spots plan) second (subst (λ ts. IsPlanOf ts intras spots plan) first made))
 
 plan_at : (t : AcceptedTables) (count : ℕ) (plans : List TierPlan) (plan : TierPlan) (c : ℕ) (d : TierPlan) (b : Bool) → (c == count) ≡ b
     → AreFirstPlans t count plans → IsPlan t (commodity_id t count) plan → c < count + 1

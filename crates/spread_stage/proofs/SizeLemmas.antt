@@ -14,6 +14,7 @@ use Rattle.spread_stage.specs.Spreads.{is_in_tier, tier_side}
 use Rattle.spread_stage.specs.Months.{MonthsRise, total_size, IsPartOf, Shrinks}
 use Rattle.span_tables.specs.declared.legs.MonthLeg.{MonthLeg}
 use Rattle.spread_stage.specs.declared.months.MonthUnits.{MonthUnits}
+use Rattle.span_tables.proofs.SideLemmas.{used_size}
 
 -- the part on a side is at most the size
 pub part_on-le : (on : MarketSide) (z : ℤ) → part_on on z ≤ nat_abs z
@@ -21,13 +22,6 @@ part_on-le Long (pos n) = omega arith
 part_on-le Long (negsuc n) = omega arith
 part_on-le Short (pos n) = omega arith
 part_on-le Short (negsuc n) = omega arith
-
--- what is left plus what was used is the size before
-pub size-less_used : (on : MarketSide) (z : ℤ) (u : ℕ) → u ≤ part_on on z → nat_abs (less_used on z u) + u ≡ nat_abs z
-size-less_used Long (pos n) u h = omega (arith, ints, h)
-size-less_used Long (negsuc n) u h = omega (arith, ints, h)
-size-less_used Short (pos n) u h = omega (arith, ints, h)
-size-less_used Short (negsuc n) u h = omega (arith, ints, h)
 
 -- a side is at most the total size of the remaining deltas
 size_if : (on : MarketSide) (b : Bool) (m : MonthUnits) (xs : List MonthUnits)
@@ -115,7 +109,7 @@ module _ (on : MarketSide) (used : MonthUnits → ℕ) (within : (m : MonthUnits
       let a = sum_by-cons (λ (x : MonthUnits). nat_abs x.units) (after m) (map after ms) in
       let b = sum_by-cons used m ms in
       let d = sum_by-cons (λ (x : MonthUnits). nat_abs x.units) m ms in
-      let e = size-less_used on m.units (used m) (within m) in
+      let e = used_size on m.units (used m) (within m) in
       let h = size_after ms in
       omega (arith, a, b, d, e, h)
 

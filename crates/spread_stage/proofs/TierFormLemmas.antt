@@ -34,7 +34,7 @@ module _ (d : Direction) where
       let first : IsKnown tiers leg = All-head (IsKnown tiers) leg legs known in
       let on : MarketSide = market_side d leg.months.side in
       let here : sum_of sums on leg.tier ≡ tier_side rests on leg.months =
-      are leg.tier first.within on ∙ side_of_tier tiers leg first rests on in
+      are.sums leg.tier first.within on ∙ side_of_tier tiers leg first rests on in
       let rest = rooms_are tiers rests sums are legs (All-tail (IsKnown tiers) leg legs known) in
       λ i. record { side = here i; ratio = leg.months.ratio } ∷ rest i
 

@@ -1,32 +1,19 @@
 -- The number of the tier that a month is in.
-use Rattle.std.proofs.Common.{◌≡◌, ◌≢◌, ℕ, suc, ◌+◌, ◌<◌, ◌≤◌, ◌==◌, Bool, true, false, cond, not, List, [], ◌∷◌}
+use Rattle.std.proofs.Common.{◌≡◌, ◌≢◌, ℕ, ◌<◌, ◌≤◌, ◌==◌, Bool, true, false, not, List}
 use Rattle.std.proofs.Common.{refl, sym, ap, ◌∙◌, subst, arith, get_or, length}
 use Rattle.std.specs.Prelude.{nat_lt, pos}
 use Rattle.std.specs.List.{position_or_len}
 use Rattle.std.proofs.lemmas.Bool.Decides.{nat_tests}
 use Rattle.std.proofs.lemmas.List.{get_or_default}
-use Rattle.std.proofs.lemmas.List.Sums.{position_or_len_is, prefix_len_passes}
+use Rattle.std.proofs.lemmas.List.Sums.{position_or_len_is, prefix_len_passes, passes_at_first}
 use Rattle.span_tables.specs.declared.records.Tier.{Tier}
 use Rattle.spread_stage.specs.Spreads.{is_in_tier}
 use Rattle.spread_stage.specs.near.TierPlans.{no_tier, tier_at}
-use Rattle.span_tables.specs.near.Terms.{has_month}
-use Rattle.spread_stage.specs.near.TierSums.{AreTiers, months_of}
+use Rattle.spread_stage.specs.near.TierSums.{AreTiers, has_month, months_of}
 use Rattle.spread_stage.specs.declared.months.MonthUnits.{MonthUnits}
 use Rattle.spread_stage.proofs.TierSumLemmas.{outside}
 
 module _ {X : Type 0} (p : X → Bool) where
-  at_if : (b : Bool) (x : X) (xs : List X) (d : X) (n : ℕ) → p x ≡ b → (n < length xs → p (get_or xs n d) ≡ true)
-      → cond (not b) (1 + n) 0 < length (x ∷ xs) → p (get_or (x ∷ xs) (cond (not b) (1 + n) 0) d) ≡ true
-  at_if true x xs d n is more lt = is
-  at_if false x xs d n is more lt =
-      let one : 1 + n ≡ suc n = omega arith in
-      subst (λ k. p (get_or (x ∷ xs) k d) ≡ true) (sym one) (more (omega (arith, lt)))
-
-  -- the first element that passes passes
-  at_position : (xs : List X) (d : X) → position_or_len p xs < length xs → p (get_or xs (position_or_len p xs) d) ≡ true
-  at_position [] d lt = absurd (omega (arith, lt))
-  at_position (x ∷ xs) d lt = at_if (p x) x xs d (position_or_len p xs) refl (at_position xs d) lt
-
   before_position : (xs : List X) (k : ℕ) (d : X) → k < position_or_len p xs → p (get_or xs k d) ≡ true → ⊥
   before_position xs k d lt passes = let none = prefix_len_passes (λ x. not (p x)) xs k d lt in cc
 
@@ -37,7 +24,7 @@ module _ (tiers : List Tier) (are : AreTiers tiers) (m : MonthUnits) (number : �
 
   here : number < length tiers → p (tier_at tiers number) ≡ true
   here lt =
-      subst (λ n. p (tier_at tiers n) ≡ true) (sym is) (at_position p tiers no_tier (subst (λ n. n < length tiers) is lt))
+      subst (λ n. p (tier_at tiers n) ≡ true) (sym is) (passes_at_first p tiers no_tier (subst (λ n. n < length tiers) is lt))
 
   never : (k : ℕ) (b : Bool) → nat_lt k number ≡ b → k < length tiers → k ≢ number → p (tier_at tiers k) ≡ true → ⊥
   never k true e lt other passes =

@@ -13,6 +13,7 @@ use Rattle.spread_stage.specs.Spreads.{is_in_tier, tier_side, side_before, used_
 use Rattle.spread_stage.specs.Months.{MonthsRise}
 use Rattle.spread_stage.specs.declared.months.MonthUnits.{MonthUnits}
 use Rattle.span_tables.specs.declared.legs.MonthLeg.{MonthLeg}
+use Rattle.std.proofs.lemmas.Bool.{and_right}
 
 module _ (on : MarketSide) (leg : MonthLeg) where
   -- what a month contributes to the side
@@ -51,10 +52,6 @@ module _ (on : MarketSide) (leg : MonthLeg) where
   and_true true b e = e
   and_true false b e = refl
 
-  and_false : (a b : Bool) → b ≡ false → (a && b) ≡ false
-  and_false true b e = e
-  and_false false b e = refl
-
   -- if all months are earlier than p, the side before p is the whole side
   before_all : (xs : List MonthUnits) (p : ℕ) → AllByRecursion (λ x. x.month < p) xs
       → side_before xs on leg p ≡ tier_side xs on leg
@@ -76,7 +73,7 @@ module _ (on : MarketSide) (leg : MonthLeg) where
       let ge : p ≤ x.month = h.0 in
       let t : nat_lt x.month p ≡ false = grind (arith, nat_tests, ge) in
       sum_if (λ m. part_on on m.units) (is_in_tier leg x && nat_lt x.month p) x (filter early xs)
-      ∙ ap (λ b. cond b (part_on on x.units) 0 + side_before xs on leg p) (and_false (is_in_tier leg x) (nat_lt x.month p) t)
+      ∙ ap (λ b. cond b (part_on on x.units) 0 + side_before xs on leg p) (and_right (is_in_tier leg x) (nat_lt x.month p) t)
       ∙ (let rest = before_none xs p h.1 in omega (arith, rest))
 
   later_or_same : (m : MonthUnits) (ms : List MonthUnits) → AllByRecursion (λ n. m.month < n.month) ms

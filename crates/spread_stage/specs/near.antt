@@ -4,3 +4,4 @@ pub mod SetPlans
 pub mod TierPlans
 pub mod TierSums
 pub mod Uses
+pub mod SpotIndex

@@ -7,6 +7,8 @@ pub mod deltas;
 pub mod laws;
 pub mod months;
 pub mod set_plans;
+pub mod spot_index;
+pub mod tier_index;
 pub mod tier_plans;
 pub mod tier_sums;
 pub mod tiers;

@@ -14,7 +14,8 @@ pub fn plans_of(alloc: Global, tables: &Tables) -> Result<Vec<TierPlan>, AllocEr
     let mut plans = Vec::with_capacity(alloc, commodities)?;
     for commodity in 0..commodities {
         let tiers = tables.tiers_of(commodity);
-        plans.push(TierPlan::new(alloc, tiers, tables.intras(commodity))?)?;
+        let spots = tables.spots(commodity);
+        plans.push(TierPlan::new(alloc, tiers, tables.intras(commodity), spots)?)?;
     }
     Ok(plans)
 }

@@ -4,14 +4,16 @@ ghost use Rattle.std.specs.Prelude.{◌≡◌, ◌<◌, ◌≤◌, ℕ, List, tr
 ghost use Rattle.std.specs.List.{list_any, position, position_or_len};
 ghost use Rattle.span_money.specs.declared.bits.TheConstants.{BITS};
 ghost use Rattle.span_tables.specs.Tables.{has_months};
-ghost use Rattle.span_tables.specs.declared.limits.TheConstants.{MAX_TIERS};
+ghost use Rattle.span_tables.specs.declared.limits.TheConstants.{MAX_SPOT_MONTHS, MAX_TIERS};
 ghost use Rattle.spread_stage.specs.near.TierPlans.{IsIndexed};
 ghost use Rattle.spread_stage.specs.declared.tier_plans.TierLeg.{TierLeg};
 
+use crate::spot_index::SpotIndex;
+use crate::tier_index::TierIndex;
 use arrayvec::ArrayVec;
 use span_tables::leg_index::{LegAt, LegIndex};
 use span_tables::legs::MonthLeg;
-use span_tables::records::{Intra, Tier};
+use span_tables::records::{Intra, Spot, Tier};
 use std::alloc::{AllocError, Global};
 
 /// A leg of a spread, with the number of its tier among the tiers of its commodity, from 0.
@@ -29,11 +31,14 @@ pub struct TierSpread {
     pub priority: u32,
 }
 
-/// The spreads of a commodity by rising priority, and their index by the numbers of their tiers.
+/// The spreads of a commodity by rising priority, their index by the numbers of their tiers, and the indexes of the
+/// commodity's tiers and spot months.
 #[derive(Drop)]
 pub struct TierPlan {
     pub spreads: Vec<TierSpread>,
     pub index: LegIndex,
+    pub tiers: TierIndex,
+    pub spots: SpotIndex,
 }
 
 // Returns the number of the tier that has the months of a leg, if there is one.
@@ -106,15 +111,21 @@ fn add_legs(index: &mut LegIndex, number: usize, legs: &[TierLeg])
 impl TierPlan {
     ghost use Rattle.spread_stage.specs.near.SetPlans.{IsPlanOf};
 
-    /// Returns the plan of a commodity with these tiers and spreads. Each leg has the months of one of the
+    /// Returns the plan of a commodity with these tiers, spreads and spot months. Each leg has the months of one of the
     /// tiers. Fails if memory runs out.
-    pub fn new(alloc: Global, tiers: &[Tier], intras: &[Intra]) -> Result<TierPlan, AllocError>
+    pub fn new(
+        alloc: Global,
+        tiers: &[Tier],
+        intras: &[Intra],
+        spots: &[Spot],
+    ) -> Result<TierPlan, AllocError>
         requires few { length tiers.now ≤ MAX_TIERS }
         requires spreads { length intras.now ≤ BITS }
         requires known { All (λ s. All (λ leg. list_any (has_months leg) tiers.now ≡ true) s.legs) intras.now }
         requires legs { All (λ s. length s.legs ≤ 4) intras.now }
         requires some { All (λ s. 0 < length s.legs) intras.now }
-        ensures { IfOk result (IsPlanOf tiers.now intras.now) }
+        requires spots { length spots.now ≤ MAX_SPOT_MONTHS }
+        ensures { IfOk result (IsPlanOf tiers.now intras.now spots.now) }
     {
         let mut index = LegIndex::none();
         let mut spreads = Vec::with_capacity(alloc, intras.len())?;
@@ -123,6 +134,11 @@ impl TierPlan {
             add_legs(&mut index, spreads.len(), &spread.legs);
             spreads.push(spread)?;
         }
-        Ok(TierPlan { spreads, index })
+        Ok(TierPlan {
+            spreads,
+            index,
+            tiers: TierIndex::new(tiers),
+            spots: SpotIndex::new(spots),
+        })
     }
 }

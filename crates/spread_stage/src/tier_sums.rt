@@ -1,7 +1,6 @@
 //! The spreads of a commodity in a whole run, formed over the sums of the sides of its tiers (docs/METHOD.md,
 //! Intracommodity spreads).
-ghost use Rattle.std.specs.List.{position_or_len};
-ghost use Rattle.std.specs.Prelude.{◌≡◌, ℕ, ◌+◌, ◌-◌, ◌*◌, ◌/◌, ◌<◌, ◌≤◌, List, [], ◌∷◌, length, map, fold, All};
+ghost use Rattle.std.specs.Prelude.{◌≡◌, ℕ, ◌+◌, ◌-◌, ◌*◌, ◌/◌, ◌^◌, ◌<◌, ◌≤◌, List, [], ◌∷◌, length, map, fold, All};
 ghost use Rattle.std.specs.Prelude.{◌==◌, false, if◌then◌else◌, nat_abs};
 ghost use Rattle.span_tables.specs.Accepted.{IsIntra};
 ghost use Rattle.span_tables.specs.Names.{has_repeat};
@@ -10,22 +9,21 @@ ghost use Rattle.span_tables.specs.Sides.{market_side, part_on, spreads_formed};
 ghost use Rattle.span_tables.specs.declared.limits.TheConstants.{MAX_RATE, MAX_TIERS, MAX_UNITS};
 ghost use Rattle.span_tables.specs.declared.sides.Direction.TheVariants.{ALong, AShort};
 ghost use Rattle.span_tables.specs.declared.sides.MarketSide.{MarketSide};
-ghost use Rattle.span_tables.specs.near.Terms.{has_month};
 ghost use Rattle.spread_stage.specs.Months.{AreMonths, MonthsRise, Shrinks, total_size};
 ghost use Rattle.spread_stage.specs.Spreads.{rests_after, spread_both_ways, spread_one_way, tier_rooms, unspread};
 ghost use Rattle.spread_stage.specs.near.SetPlans.{IsByTiers};
 ghost use Rattle.spread_stage.specs.near.TierPlans.{AreKnown, IsKnown, intra_of};
-ghost use Rattle.spread_stage.specs.near.TierSums.{AreSums, AreTiers, IsChanged, IsClosed, sum_of, sum_on, sum_rooms};
+ghost use Rattle.spread_stage.specs.near.TierSums.{AreOpen, AreSums, AreTiers, IsChanged, IsClosed, no_span};
+ghost use Rattle.spread_stage.specs.near.TierSums.{side_place, span_of, span_with, sum_of, sum_on, sum_rooms};
 ghost use Rattle.spread_stage.specs.declared.months.MonthUnits.{MonthUnits};
 
 use crate::charges::delivery_of;
 use crate::months::{MonthUnits, Months};
+use crate::tier_index::TierIndex;
 use crate::tier_plans::{TierLeg, TierPlan, TierSpread};
-use crate::tiers::{at_rate, use_leg};
+use crate::tiers::{Span, at_rate, use_leg};
 use span_money::amounts::{Money, Units};
 use span_money::bits::{has, take_first};
-use span_tables::contracts::tier_of;
-use span_tables::held::HeldRun;
 use span_tables::limits::MAX_TIERS;
 use span_tables::records::{Spot, Tier};
 use span_tables::sides::{Direction, MarketSide, market_side, part_on};
@@ -33,19 +31,28 @@ use span_tables::slots::OpenSides;
 use std::alloc::{AllocError, Global};
 use std::marker::Model;
 
-/// The sums of the parts of a tier's months on each side of the market, in units of 10^-8.
+/// The sums of the parts of a tier's months on each side of the market, long and short, in units of 10^-8.
 #[derive(Clone, Copy, Default)]
 pub struct TierSum {
-    pub long: u64,
-    pub short: u64,
+    pub sides: [u64; 2],
 }
 
-/// The sums of the tiers of a commodity, by number. A side of a tier that is not open has the sum 0, whatever is kept
-/// for it.
+/// For each tier of a commodity by number, its sums and the places of its months among the months.
 #[derive(Clone, Copy)]
 pub struct TierSums {
     pub sums: [TierSum; MAX_TIERS],
-    pub open_sides: OpenSides,
+    pub spans: [Span; MAX_TIERS],
+}
+
+// Returns the place of a side of the market in a tier's sums.
+#[inline(always)]
+fn place_of(on: MarketSide) -> usize
+    ensures { result ≡ side_place on }
+{
+    match on {
+        MarketSide::Long => 0,
+        MarketSide::Short => 1,
+    }
 }
 
 impl TierSum {
@@ -54,10 +61,7 @@ impl TierSum {
     fn on(&self, on: MarketSide) -> u64
         ensures { result ≡ sum_on on self.now }
     {
-        match on {
-            MarketSide::Long => self.long,
-            MarketSide::Short => self.short,
-        }
+        self.sides[place_of(on)]
     }
 
     // Replaces the sum of a side of the market.
@@ -66,30 +70,59 @@ impl TierSum {
         ensures here { sum_on on self.new ≡ sum }
         ensures others { (other : MarketSide) → (other ≡ on → ⊥) → sum_on other self.new ≡ sum_on other self.old }
     {
-        match on {
-            MarketSide::Long => self.long = sum,
-            MarketSide::Short => self.short = sum,
+        self.sides[place_of(on)] = sum;
+    }
+
+    // Returns the sums with the units of one more month.
+    #[inline(always)]
+    fn with(&self, units: Units) -> TierSum
+        requires { (on : MarketSide) → sum_on on self.now + nat_abs units ≤ MAX_UNITS }
+        ensures { (on : MarketSide) → sum_on on result ≡ sum_on on self.now + part_on on units }
+    {
+        TierSum {
+            sides: [
+                self.on(MarketSide::Long) + part_on(MarketSide::Long, units),
+                self.on(MarketSide::Short) + part_on(MarketSide::Short, units),
+            ],
+        }
+    }
+}
+
+impl Span {
+    // Returns the span with one more place at its end.
+    #[inline(always)]
+    fn with(self, place: usize) -> Span
+        requires { place + 1 < 2 ^ 64 }
+        ensures { result ≡ span_with self place }
+    {
+        let first = if self.end == 0 { place } else { self.first };
+        Span {
+            first,
+            end: place + 1,
         }
     }
 }
 
 impl TierSums {
     /// Returns sums that are all 0.
-    fn none() -> TierSums
-        ensures { (on : MarketSide) (k : ℕ) → sum_of result on k ≡ 0 }
-    {
+    fn none() -> TierSums {
         TierSums {
             sums: [TierSum::default(); MAX_TIERS],
-            open_sides: OpenSides::none(),
+            spans: [Span::default(); MAX_TIERS],
         }
     }
 
-    // Sets all sums to 0.
+    // Clears the sums and the spans of the first tiers.
     #[inline(always)]
-    fn clear(&mut self)
-        ensures { (on : MarketSide) (k : ℕ) → sum_of self.new on k ≡ 0 }
+    fn clear(&mut self, tiers: usize)
+        requires { tiers ≤ MAX_TIERS }
+        ensures sums { (on : MarketSide) (k : ℕ) → k < tiers → sum_of self.new on k ≡ 0 }
+        ensures spans { (k : ℕ) → k < tiers → span_of self.new k ≡ no_span }
     {
-        self.open_sides = OpenSides::none();
+        for tier in 0..tiers {
+            self.sums[tier] = TierSum::default();
+            self.spans[tier] = Span::default();
+        }
     }
 
     // Returns the sum of a side of a tier.
@@ -98,56 +131,33 @@ impl TierSums {
         requires { tier < MAX_TIERS }
         ensures { result ≡ sum_of self.now on tier }
     {
-        if self.open_sides.has(on, tier) {
-            self.sums[tier].on(on)
-        } else {
-            0
-        }
+        self.sums[tier].on(on)
     }
 
-    // Replaces the sum of a side of a tier.
+    // Adds the units of a month at a place to the sums of its tier.
     #[inline(always)]
-    fn set(&mut self, on: MarketSide, tier: usize, sum: u64)
-        requires { tier < MAX_TIERS }
-        ensures { IsChanged on tier sum self.old self.new }
-    {
-        self.sums[tier].set(on, sum);
-        self.open_sides = self.open_sides.marked(on, tier, sum > 0);
-    }
-
-    // Adds the units of a month to the sum of the side that they are on.
-    #[inline(always)]
-    fn add(&mut self, tier: usize, units: Units)
+    fn add(&mut self, tier: usize, place: usize, units: Units)
         requires tier { tier < MAX_TIERS }
+        requires place { place + 1 < 2 ^ 64 }
         requires room { (on : MarketSide) → sum_of self.old on tier + nat_abs units ≤ MAX_UNITS }
-        ensures { (on : MarketSide) (k : ℕ) → k < MAX_TIERS → sum_of self.new on k
+        ensures sums { (on : MarketSide) (k : ℕ) → k < MAX_TIERS → sum_of self.new on k
             ≡ sum_of self.old on k + (if tier == k then part_on on units else 0) }
+        ensures spans { (k : ℕ) → k < MAX_TIERS → span_of self.new k
+            ≡ (if tier == k then span_with (span_of self.old k) place else span_of self.old k) }
     {
-        let on = side_of(units);
-        let sum = self.on(on, tier) + part_on(on, units);
-        self.set(on, tier, sum);
+        self.sums[tier] = self.sums[tier].with(units);
+        self.spans[tier] = self.spans[tier].with(place);
     }
 
     // Lowers the sum of a side of a tier by what was used of it, and to 0 at the least.
     #[inline(always)]
     fn lower(&mut self, on: MarketSide, tier: usize, used: u64)
         requires { tier < MAX_TIERS }
-        ensures { IsChanged on tier (sum_of self.old on tier - used) self.old self.new }
+        ensures sums { IsChanged on tier (sum_of self.old on tier - used) self.old self.new }
+        ensures spans { (k : ℕ) → span_of self.new k ≡ span_of self.old k }
     {
         let sum = self.on(on, tier).saturating_sub(used);
-        self.set(on, tier, sum);
-    }
-}
-
-// Returns the side of the market that units are on.
-#[inline(always)]
-fn side_of(units: Units) -> MarketSide
-    ensures { (on : MarketSide) → (on ≡ result → ⊥) → part_on on units ≡ 0 }
-{
-    if units.get() < 0 {
-        MarketSide::Short
-    } else {
-        MarketSide::Long
+        self.sums[tier].set(on, sum);
     }
 }
 
@@ -201,8 +211,9 @@ fn use_legs(
     for leg in legs {
         let needed = formed * u64::from(leg.months.ratio.get());
         let on = market_side(direction, leg.months.side);
-        use_leg(rests, on, &leg.months, needed);
-        sums.lower(on, usize::from(leg.tier), needed);
+        let tier = usize::from(leg.tier);
+        use_leg(rests, sums.spans[tier], on, &leg.months, needed);
+        sums.lower(on, tier, needed);
     }
 }
 
@@ -229,7 +240,9 @@ fn form(
     ensures sums { AreSums tiers.now rests.new sums.new }
 {
     let formed = spreads_formed(sums, direction, legs);
-    use_legs(rests, sums, tiers, direction, legs, formed);
+    if formed > 0 {
+        use_legs(rests, sums, tiers, direction, legs, formed);
+    }
     formed
 }
 
@@ -307,10 +320,11 @@ fn spread_open_ways(
 }
 
 // Forms the spreads of a commodity in order, and returns the exact sum of the spreads formed times their rates, in
-// 10^-4 minor units. It leaves out the spreads that the index does not find among the open sides.
+// 10^-4 minor units. It leaves out the spreads that the index does not find among the sides that are open at the start.
 fn form_spreads(
     rests: &mut [MonthUnits],
     sums: &mut TierSums,
+    sides: &OpenSides,
     tiers: &[Tier],
     plan: &TierPlan,
 ) -> u128
@@ -318,6 +332,7 @@ fn form_spreads(
     requires small { total_size rests.old ≤ MAX_UNITS }
     requires tiers { AreTiers tiers.now }
     requires sums { AreSums tiers.now rests.old sums.old }
+    requires sides { AreOpen tiers.now sums.old sides.now }
     requires plan { IsByTiers tiers.now plan.now }
     requires intras { All IsIntra (map intra_of plan.now.spreads.items) }
     ensures value { record { rests = rests.new; charge = result }
@@ -327,74 +342,41 @@ fn form_spreads(
     ensures shrinks { (months : List MonthUnits) → Shrinks months rests.old → Shrinks months rests.new }
 {
     let mut charge = 0;
-    let mut found = plan.index.may_form(&sums.open_sides);
+    let found = plan.index.may_form(sides);
     let mut left = found.either();
     while let Some(number) = take_first(&mut left) {
         if let Some(spread) = plan.spreads.get(number) {
             let a_long = has(found.a_long, number);
             let a_short = has(found.a_short, number);
             charge += spread_open_ways(rests, sums, tiers, spread, a_long, a_short);
-            found = plan.index.may_form(&sums.open_sides);
-            left &= found.either();
         }
     }
     charge
 }
 
-// Returns whether a month (`yyyymm`) is in a tier.
-fn has_month(tier: &Tier, month: u32) -> bool
-    ensures { result ≡ has_month month tier.now }
-{
-    tier.first <= month && month <= tier.last
-}
-
-// Returns the number of the tier that a month (`yyyymm`) is in, or the number of tiers if it is in none. Checks `near`
-// first.
-#[inline(always)]
-fn number_near(tiers: &[Tier], near: usize, month: u32) -> usize
-    requires { AreTiers tiers.now }
-    ensures { result ≡ position_or_len (has_month month) tiers.now }
-{
-    if near < tiers.len() && has_month(&tiers[near], month) {
-        return near;
-    }
-    tier_of(tiers, month)
-}
-
-// Returns the place of the first held contract from a place on whose month is not below a month, if the months rise.
-#[inline(always)]
-fn place_from(held: &HeldRun<'_>, place: usize, month: u32) -> usize {
-    let mut place = place;
-    while place < held.len() && held.terms(place).month < month {
-        place += 1;
-    }
-    place
-}
-
-// Returns the number of the tier of a held contract, or 0 if there is no contract at that place.
-#[inline(always)]
-fn number_at(held: &HeldRun<'_>, place: usize) -> usize {
-    if place < held.len() {
-        return held.terms(place).tier as usize;
-    }
-    0
-}
-
-// Replaces the sums by the sums of months. The tier of a month is probably that of the next held contract.
-fn add_months(sums: &mut TierSums, held: &HeldRun<'_>, months: &[MonthUnits], tiers: &[Tier])
+// Replaces the sums by the sums of months, and returns the sides of tiers that are open.
+fn add_months(
+    sums: &mut TierSums,
+    months: &[MonthUnits],
+    tiers: &[Tier],
+    near: &TierIndex,
+) -> OpenSides
     requires months { AreMonths months.now }
     requires tiers { AreTiers tiers.now }
-    ensures { AreSums tiers.now months.now sums.new }
+    ensures sums { AreSums tiers.now months.now sums.new }
+    ensures sides { AreOpen tiers.now sums.new result }
 {
-    sums.clear();
-    let mut place = 0;
-    for month in months {
-        place = place_from(held, place, month.month);
-        let tier = number_near(tiers, number_at(held, place), month.month);
+    sums.clear(tiers.len());
+    let mut sides = OpenSides::none();
+    for place in 0..months.len() {
+        let month = &months[place];
+        let tier = near.number_of(tiers, month.month);
         if tier < tiers.len() {
-            sums.add(tier, month.units);
+            sums.add(tier, place, month.units);
+            sides = sides.with(tier, month.units);
         }
     }
+    sides
 }
 
 /// The working memory of the spreads of a commodity in a whole run. In contract clauses it is the remaining deltas of
@@ -426,6 +408,7 @@ impl TierRun {
     ghost use Rattle.spread_stage.specs.declared.charges.TheConstants.{MAX_DELIVERY_CHARGE};
     ghost use Rattle.spread_stage.specs.Months.{AreTierRests, Shrinks};
     ghost use Rattle.spread_stage.specs.Spreads.{after_spreads, unspread};
+    ghost use Rattle.spread_stage.specs.near.SpotIndex.{AreSpots};
 
     /// Returns memory without months and without charge. It allocates nothing.
     pub fn none(alloc: Global) -> TierRun
@@ -439,10 +422,9 @@ impl TierRun {
     }
 
     /// Forms the spreads of a commodity in order, with side A long first, on the deltas of its months. Fails if memory
-    /// runs out. It is fastest if the months are those of the held contracts.
+    /// runs out.
     pub fn run(
         &mut self,
-        held: &HeldRun<'_>,
         months: &Months,
         tiers: &[Tier],
         plan: &TierPlan,
@@ -458,8 +440,8 @@ impl TierRun {
         self.charge = 0;
         self.rests.clear();
         self.rests.extend_from_slice(months)?;
-        add_months(&mut self.sums, held, months, tiers);
-        self.charge = form_spreads(&mut self.rests, &mut self.sums, tiers, plan);
+        let sides = add_months(&mut self.sums, months, tiers, &plan.tiers);
+        self.charge = form_spreads(&mut self.rests, &mut self.sums, &sides, tiers, plan);
         Ok(())
     }
 
@@ -480,13 +462,14 @@ impl TierRun {
     }
 
     /// Returns the delivery charge of the spot months after these spreads, in minor units, rounded up once.
-    pub fn delivery(&self, months: &Months, spots: &[Spot]) -> Money
+    pub fn delivery(&self, months: &Months, spots: &[Spot], plan: &TierPlan) -> Money
         requires shrinks { Shrinks months.now self.now.rests }
         requires few { length spots.now ≤ MAX_SPOT_MONTHS }
         requires spots { All IsSpot spots.now }
+        requires plan { AreSpots plan.now.spots spots.now }
         ensures value { result ≡ pos (delivery_charge months.now self.now.rests spots.now) }
         ensures bound { nat_abs result ≤ MAX_DELIVERY_CHARGE }
     {
-        delivery_of(months, &self.rests, spots)
+        delivery_of(months, &self.rests, spots, &plan.spots)
     }
 }

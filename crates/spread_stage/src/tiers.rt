@@ -7,6 +7,7 @@ ghost use Rattle.span_tables.specs.declared.limits.TheConstants.{MAX_RATE, MAX_U
 ghost use Rattle.spread_stage.specs.Months.{AreTierRests, MonthsRise, Shrinks, total_size};
 ghost use Rattle.spread_stage.specs.Spreads.{formed_both, formed_in, is_in_tier, rests_after, rests_after_leg, spread_both_ways};
 ghost use Rattle.spread_stage.specs.Spreads.{spread_one_way, tier_rooms, tier_side, unspread};
+ghost use Rattle.spread_stage.specs.near.Uses.{IsSpan};
 ghost use Rattle.spread_stage.specs.declared.months.MonthUnits.{MonthUnits};
 
 use crate::months::{MonthUnits, Months};
@@ -183,14 +184,30 @@ fn spreads_formed(rests: &[MonthUnits], direction: Direction, legs: &[MonthLeg])
     }
 }
 
-// Uses what a leg needs of its tier's side, from the earliest month on.
-pub(crate) fn use_leg(rests: &mut [MonthUnits], on: MarketSide, leg: &MonthLeg, needed: u64)
+/// A range of places among months. It has the place `first`, and ends before the place `end`.
+#[derive(Clone, Copy, Default)]
+pub struct Span {
+    pub first: usize,
+    pub end: usize,
+}
+
+// Uses what a leg needs of its tier's side, from the earliest month on. All months of the tier are in the span.
+#[inline(always)]
+pub(crate) fn use_leg(
+    rests: &mut [MonthUnits],
+    span: Span,
+    on: MarketSide,
+    leg: &MonthLeg,
+    needed: u64,
+)
     requires rise { MonthsRise rests.old }
     requires small { total_size rests.old ≤ MAX_UNITS }
+    requires span { IsSpan rests.old leg.now span }
     ensures { rests.new ≡ rests_after_leg on needed rests.old leg.now }
 {
     let mut left = needed;
-    for month in rests.iter_mut() {
+    for place in span.first..span.end {
+        let month = &mut rests[place];
         let used = part_in_tier(month, on, leg).min(left);
         month.units = less_used(on, month.units, used);
         left -= used;
@@ -206,7 +223,11 @@ fn use_legs(rests: &mut [MonthUnits], direction: Direction, legs: &[MonthLeg], f
 {
     for leg in legs {
         let needed = formed * u64::from(leg.ratio.get());
-        use_leg(rests, market_side(direction, leg.side), leg, needed);
+        let all = Span {
+            first: 0,
+            end: rests.len(),
+        };
+        use_leg(rests, all, market_side(direction, leg.side), leg, needed);
     }
 }
 

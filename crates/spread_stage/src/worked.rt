@@ -1,10 +1,8 @@
 //! Test vectors, computed by the definitions.
 ghost use Rattle.std.specs.Prelude.{◌≡◌, [], ◌∷◌, pos, neg_ℤ};
-ghost use Rattle.std.specs.List.{repeat};
-ghost use Rattle.span_tables.specs.declared.limits.TheConstants.{MAX_HELD, MAX_NET, MAX_UNITS};
 ghost use Rattle.spread_stage.specs.Charges.{delivery_charge, intra_charge};
-ghost use Rattle.spread_stage.specs.Deltas.{month_deltas, net_delta};
-ghost use Rattle.spread_stage.specs.near.Samples.{calendar_spread, future, held, largest, march, month_units, own_spread};
+ghost use Rattle.spread_stage.specs.Deltas.{month_deltas};
+ghost use Rattle.spread_stage.specs.near.Samples.{calendar_spread, future, held, march, month_units};
 ghost use Rattle.spread_stage.specs.Spreads.{after_spreads, formed_both, unspread};
 
 // The deltas of two held months.
@@ -14,14 +12,10 @@ fn deltas_of_two_months()
         ≡ month_units 202503 (pos 300000000) ∷ month_units 202506 (neg_ℤ (pos 200000000)) ∷ [] }
 {}
 
-// The remaining deltas and the charge after spreads. Two spreads of ratio 1 at rate 250 leave one long delta. A third
-// of a spread leaves 10000 units on each month. The earliest month of a tier is used first. Side A may be short and B
-// long. A tier may be spread against itself.
+// The remaining deltas and the charge after spreads. A third of a spread leaves 10000 units on each month. The earliest
+// month of a tier is used first.
 #[tactic(auto, unfolding(crate::specs::Spreads::after_spreads, crate::specs::Spreads::spread_both_ways))]
 fn rests_of_one_spread()
-    ensures whole { after_spreads (calendar_spread 10000 ∷ [])
-        (month_units 202503 (pos 300000000) ∷ month_units 202506 (neg_ℤ (pos 200000000)) ∷ [])
-        ≡ record { rests = month_units 202503 (pos 100000000) ∷ month_units 202506 (pos 0) ∷ []; charge = 5000000 } }
     ensures third { after_spreads (calendar_spread 30000 ∷ [])
         (month_units 202503 (pos 100000000) ∷ month_units 202506 (neg_ℤ (pos 100000000)) ∷ [])
         ≡ record { rests = month_units 202503 (pos 10000) ∷ month_units 202506 (neg_ℤ (pos 10000)) ∷ []; charge = 833250 } }
@@ -31,19 +25,12 @@ fn rests_of_one_spread()
           rests = month_units 202503 (pos 0) ∷ month_units 202504 (pos 100000000) ∷ month_units 202506 (pos 0) ∷ [];
           charge = 5000000;
         } }
-    ensures second_direction { after_spreads (calendar_spread 10000 ∷ [])
-        (month_units 202503 (neg_ℤ (pos 300000000)) ∷ month_units 202506 (pos 200000000) ∷ [])
-        ≡ record { rests = month_units 202503 (neg_ℤ (pos 100000000)) ∷ month_units 202506 (pos 0) ∷ []; charge = 5000000 } }
-    ensures one_tier { after_spreads (own_spread ∷ [])
-        (month_units 202503 (pos 200000000) ∷ month_units 202506 (neg_ℤ (pos 100000000)) ∷ [])
-        ≡ record { rests = month_units 202503 (pos 100000000) ∷ month_units 202506 (pos 0) ∷ []; charge = 2500000 } }
 {}
 
-// The charges of two spreads at rate 250, and of a third of a spread: 83.325 is rounded up.
+// The charge of a third of a spread: 83.325 is rounded up.
 #[tactic(auto, unfolding(crate::specs::Charges::intra_charge))]
-fn charges_of_one_spread()
-    ensures whole { intra_charge 5000000 ≡ 500 }
-    ensures third { intra_charge 833250 ≡ 84 }
+fn charge_of_one_spread()
+    ensures { intra_charge 833250 ≡ 84 }
 {}
 
 // The delivery charge of two deltas used at rate 10 and one left at rate 20.
@@ -53,22 +40,10 @@ fn delivery_of_one_spread()
         ≡ 40 }
 {}
 
-// Spreads formed with A long only, in both directions, and with A long if that leaves nothing for A short.
+// Spreads formed in both directions.
 fn spreads_formed_each_way()
-    ensures a_long { formed_both
-        (unspread (month_units 202503 (pos 300000000) ∷ month_units 202506 (neg_ℤ (pos 200000000)) ∷ [])) (calendar_spread 10000)
-        ≡ record { a_long = 20000; a_short = 0 } }
-    ensures both { formed_both
+    ensures { formed_both
         (unspread (month_units 202503 (pos 100000000) ∷ month_units 202504 (neg_ℤ (pos 200000000))
         ∷ month_units 202506 (neg_ℤ (pos 100000000)) ∷ month_units 202507 (pos 300000000) ∷ [])) (calendar_spread 10000)
         ≡ record { a_long = 10000; a_short = 20000 } }
-    ensures left { formed_both
-        (unspread (month_units 202503 (pos 200000000) ∷ month_units 202506 (neg_ℤ (pos 100000000)) ∷ [])) own_spread
-        ≡ record { a_long = 10000; a_short = 0 } }
-{}
-
-// The largest net delta: the largest number of held contracts, each with the largest net quantity.
-#[tactic(auto, unfolding(crate::specs::Deltas::month_deltas))]
-fn largest_delta()
-    ensures { net_delta (month_deltas (repeat MAX_HELD (held (pos MAX_NET) largest ∷ []))) ≡ pos MAX_UNITS }
 {}

@@ -1,10 +1,10 @@
 -- The invariant of a board is kept by each event.
-use Rattle.std.specs.Prelude.{◌↔◌, ◌⊎◌}
+use Rattle.std.specs.Prelude.{◌↔◌}
 use Rattle.std.proofs.Common.{◌≡◌, ℕ, zero, suc, ◌*◌, ◌<◌, ◌≤◌, ◌||◌, Bool, true, false}
 use Rattle.std.proofs.Common.{List, [], ◌∷◌, ◌++◌, length, refl, ap, ◌∙◌, sym, subst, inl, inr, arith}
 use Rattle.std.proofs.Common.{slice_set, slice_index_or, sum_by, map, get_or-set_same, get_or-set_other}
 use Rattle.std.proofs.Common.{length-append, length-set, eq-eqb}
-use Rattle.std.proofs.lemmas.Bool.{cases_eq, ne_eqb, true_from_ne_false, false≢true}
+use Rattle.std.proofs.lemmas.Bool.{cases_eq, ne_eqb, true_from_ne_false, false≢true, or_right}
 use Rattle.std.proofs.lemmas.List.Sums.{sum_by-set, sum_by-cons}
 use Rattle.step_scheduler.specs.Jobs.{JobView}
 use Rattle.step_scheduler.specs.declared.events.Event.{Event}
@@ -16,10 +16,6 @@ use Rattle.step_scheduler.specs.near.Steps.{was_taken, is_done, events_of, progr
 use Rattle.step_scheduler.specs.Boards.{IsComplete}
 use Rattle.step_scheduler.specs.near.Stepped.{IsRunBoard}
 use Rattle.step_scheduler.proofs.Histories.{is_taken-push, is_finished-push, run_push}
-
-pub true_or_false : (b : Bool) → (b ≡ true) ⊎ (b ≡ false)
-true_or_false true = inl refl
-true_or_false false = inr refl
 
 events_le : (p : Progress) → events_of p ≤ 2
 events_le Waiting = omega arith
@@ -97,10 +93,6 @@ module _ (of_event : Event → ℕ → Bool) (of_history : List Event → ℕ �
             push history e j ∙ or_false _ _ (there j other) ∙ agree j ∙ ap of_step (sym (progress-set_other steps k j p other))
       ]
 
-or_true : (a b : Bool) → b ≡ true → (a || b) ≡ true
-or_true true b e = refl
-or_true false b e = e
-
 waiting_no_events : (p : Progress) → was_taken p ≡ false → events_of p ≡ 0
 waiting_no_events Waiting e = refl
 waiting_no_events Taken e = absurd (false≢true (sym e))
@@ -137,7 +129,7 @@ board_takes job steps history capacity k b s =
       long = length-set steps k Taken ∙ b.long;
       run = run_push job.set.plan [] history (Take k) b.run (ready_from_start job steps history capacity k b s);
       taken = agree_after takes is_taken was_taken is_taken-push steps history (Take k) k Taken h b.taken
-          (or_true _ _ (eq-eqb k k refl)) (λ j n. ne_eqb k j n);
+          (or_right _ _ (eq-eqb k k refl)) (λ j n. ne_eqb k j n);
       finished = agree_after finishes is_finished is_done is_finished-push steps history (Take k) k Taken h b.finished
           (or_false _ _ refl ∙ b.finished k ∙ waiting_not_done _ s.waits) (λ j n. refl);
       count = let c = b.count in let w = waiting_no_events _ s.waits in let t = sum_by-set events_of steps k Taken Waiting h in
@@ -159,7 +151,7 @@ board_finishes job steps history capacity k b h taken_k open_k =
       taken = agree_after takes is_taken was_taken is_taken-push steps history (Finish k) k Done h b.taken
           (or_false _ _ refl ∙ b.taken k ∙ taken_k) (λ j n. refl);
       finished = agree_after finishes is_finished is_done is_finished-push steps history (Finish k) k Done h b.finished
-          (or_true _ _ (eq-eqb k k refl)) (λ j n. ne_eqb k j n);
+          (or_right _ _ (eq-eqb k k refl)) (λ j n. ne_eqb k j n);
       count = let c = b.count in let w = under_way_one_event _ taken_k open_k in let t =
           sum_by-set events_of steps k Done Waiting h in omega (arith, length-append history (Finish k ∷ []));
       room = let r = b.room in omega (arith, length-set steps k Done);

@@ -1,7 +1,7 @@
 -- If not every step is finished, a step can go on.
 use Rattle.std.proofs.Common.{◌≡◌, ℕ, zero, suc, ◌<◌, Bool, true, false, List, [], ◌∷◌, length, All}
 use Rattle.std.proofs.Common.{sym, ap, ◌∙◌, ◌⊎◌, inl, inr, arith, get_or}
-use Rattle.std.proofs.lemmas.Bool.{cases_eq}
+use Rattle.std.proofs.lemmas.Bool.{cases_eq, cases_Bool}
 use Rattle.std.proofs.lemmas.List.Elements.{All-cons, All-nil}
 use Rattle.plan_compiler.specs.Compiled.{IsCompiled, SetView}
 use Rattle.plan_ir.specs.Plans.{inputs_at}
@@ -11,14 +11,13 @@ use Rattle.step_scheduler.specs.declared.progress.Progress.{Progress}
 use Rattle.step_scheduler.specs.Runs.{AllFinished, CanGoOn, is_finished, is_taken}
 use Rattle.step_scheduler.specs.near.Steps.{is_done, progress_at}
 use Rattle.step_scheduler.specs.near.Stepped.{IsRunBoard}
-use Rattle.step_scheduler.proofs.BoardLemmas.{true_or_false}
 
 -- all elements pass the test, or one of them fails it
 all_or_one : (p : ℕ → Bool) (xs : List ℕ) → All (λ i. p i ≡ true) xs ⊎
     ((m : ℕ) × (m < length xs) × (p (get_or xs m 0) ≡ false))
 all_or_one p [] = inl (All-nil (λ i. p i ≡ true))
 all_or_one p (x ∷ xs) =
-    elim (true_or_false (p x)) [
+    elim (cases_Bool (p x)) [
       | inr fails ↦ inr (0, omega arith, fails)
       | inl passes ↦
           elim (all_or_one p xs) [
@@ -39,7 +38,7 @@ below_or_one p (suc n) =
     elim (below_or_one p n) [
       | inr one ↦ inr (one.0, omega (arith, one.1), one.2)
       | inl below ↦
-          elim (true_or_false (p n)) [
+          elim (cases_Bool (p n)) [
             | inr fails ↦ inr (n, omega arith, fails)
             | inl passes ↦ inl (below_more_at p n below passes)
           ]
@@ -51,7 +50,7 @@ module _ (set : SetView) (compiled : IsCompiled set) (history : List Event) wher
       → (j : ℕ) × CanGoOn set.plan history j
   unfinished_goes_on zero k low h open_k = absurd (omega arith)
   unfinished_goes_on (suc bound) k low h open_k =
-      elim (true_or_false (is_taken history k)) [
+      elim (cases_Bool (is_taken history k)) [
         | inl taken ↦ (k, inr (record { taken = taken; unfinished = open_k }))
         | inr fresh ↦
             elim (all_or_one (is_finished history) (inputs_at set.plan k)) [

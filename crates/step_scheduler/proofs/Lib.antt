@@ -6,7 +6,6 @@ pub mod Counting
 pub mod UserLemmas
 pub mod Slots
 pub mod HeldLemmas
-pub mod FoldLemmas
 pub mod PassedOver
 pub mod PartBounds
 pub mod FilledLemmas

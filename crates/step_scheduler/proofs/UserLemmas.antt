@@ -4,7 +4,7 @@ use Rattle.std.proofs.Common.{false, cond, List, [], ◌∷◌}
 use Rattle.std.proofs.Common.{length, refl, sym, ap, ◌∙◌, subst, inl, inr, arith, slice_index, zero-add, eq-eqb}
 use Rattle.std.specs.Prelude.{All, if◌then◌else◌}
 use Rattle.std.specs.List.Sorted.{IsStrictlyIncreasing}
-use Rattle.std.proofs.lemmas.Bool.{cases_eq, ne_eqb, false≢true}
+use Rattle.std.proofs.lemmas.Bool.{cases_eq, ne_eqb, or_parts}
 use Rattle.span_tables.specs.Names.{has_repeat}
 use Rattle.plan_ir.specs.Plans.{StepView, inputs_at, is_step_among, users_of}
 use Rattle.plan_ir.proofs.UserLaws.{users_are_steps, users_just, users_rise}
@@ -12,14 +12,10 @@ use Rattle.plan_compiler.specs.Compiled.{IsCompiled, SetView}
 use Rattle.plan_compiler.specs.near.Beginnings.{times}
 
 -- a number occurs at most once in a list without repetition
-or_no : (a b : Bool) → (a || b) ≡ false → (a ≡ false) × (b ≡ false)
-or_no true b e = absurd (false≢true (sym e))
-or_no false b e = (refl, e)
-
 among_once : (j : ℕ) (xs : List ℕ) → has_repeat (λ a b. a == b) xs ≡ false → times j xs ≡ cond (is_step_among j xs) 1 0
 among_once j [] distinct = refl
 among_once j (x ∷ xs) distinct =
-    let parts = or_no _ _ distinct in
+    let parts = or_parts _ _ distinct in
     elim (cases_eq x j) [
       | inl same ↦
           let none = among_once x xs parts.1 in

@@ -6,7 +6,7 @@ ghost use Rattle.std.specs.Arc.{arc_value};
 ghost use Rattle.plan_ir.specs.Figures.{figures_of, option_value_of, total_to};
 ghost use Rattle.plan_ir.specs.Plans.{inputs_at};
 ghost use Rattle.step_scheduler.specs.Boards.{IfHanded, IsComplete};
-ghost use Rattle.step_scheduler.specs.near.Figures.{AreAllFigures, AreHeldFigures};
+ghost use Rattle.step_scheduler.specs.near.Figures.{AreHeldFigures};
 ghost use Rattle.step_scheduler.specs.near.Forms.{history_of};
 ghost use Rattle.step_scheduler.specs.Jobs.{inputs_for, meaning_at};
 ghost use Rattle.step_scheduler.specs.Runs.{CanGoOn, IsOnce, IsReady, IsRun, IsUnderWay, is_finished};
@@ -340,14 +340,6 @@ impl Board {
         })
     }
 
-    /// Consumes a complete board, and returns the figures of all commodities by number. Fails if memory runs out.
-    pub fn into_figures(self, alloc: Global) -> Result<Vec<Figures>, AllocError>
-        requires { IsComplete self }
-        ensures { IfOk result (λ figures. AreAllFigures self.job.set.tables self.job.portfolio.holdings figures.items) }
-    {
-        all_figures(alloc, &self)
-    }
-
     // Returns the figures of all commodities: one element for each held commodity, and one for all others. The board is
     // complete.
     pub(crate) fn held_figures(&self, alloc: Global) -> Result<HeldFigures, AllocError>
@@ -376,20 +368,4 @@ impl Board {
             Form::Whole(whole) => Ok(whole.figures),
         }
     }
-}
-
-// Returns the figures of each commodity of a complete board, by number.
-fn all_figures(alloc: Global, board: &Board) -> Result<Vec<Figures>, AllocError>
-    requires { IsComplete board.now }
-    ensures { IfOk result (λ figures. AreAllFigures board.now.job.set.tables board.now.job.portfolio.holdings figures.items) }
-{
-    let commodities = board.job().set().tables().commodities().len();
-    let mut all = Vec::with_capacity(alloc, commodities)?;
-    for commodity in 0..commodities {
-        match board.figures(commodity) {
-            Some(figures) => all.push(figures)?,
-            None => unreachable!(),
-        }
-    }
-    Ok(all)
 }

@@ -1,6 +1,6 @@
 //! The figures of all commodities of a job, its total and its option value, computed without storing the value of each
 //! step.
-ghost use Rattle.std.specs.Prelude.{◌≡◌, ◌<◌, ◌≤◌, ◌+ℤ◌, All, IfOk, List, OnOk, fold, length, nat_abs, pos};
+ghost use Rattle.std.specs.Prelude.{◌≡◌, ◌<◌, ◌≤◌, ◌+ℤ◌, IfOk, List, OnOk, length, nat_abs};
 ghost use Rattle.std.specs.Prelude.{slice_set, true};
 ghost use Rattle.span_money.specs.declared.amounts.TheConstants.{MAX_MONEY};
 ghost use Rattle.span_tables.specs.Holdings.{fits};
@@ -66,8 +66,8 @@ fn part_of(
     let sums = sums(held);
     let scan = scan(&sums);
     months.refill(held)?;
-    tiers.run(held, months, tables.tiers_of(commodity), plan)?;
-    let delivery = tiers.delivery(months, tables.spots(commodity));
+    tiers.run(months, tables.tiers_of(commodity), plan)?;
+    let delivery = tiers.delivery(months, tables.spots(commodity), plan);
     let minimum = minimum(held, of.minimum_rate, of.method);
     Ok(Part {
         commodity,

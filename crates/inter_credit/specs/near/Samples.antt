@@ -7,7 +7,6 @@ use Rattle.span_tables.specs.near.Samples.{contract}
 use Rattle.span_tables.specs.declared.limits.TheConstants.{SCENARIOS}
 use Rattle.span_tables.specs.declared.records.Inter.{Inter}
 use Rattle.span_tables.specs.declared.records.ProductKind.{ProductKind}
-use Rattle.span_tables.specs.declared.records.ProductKind.TheVariants as product
 use Rattle.span_tables.specs.declared.sides.Side.TheVariants as side
 use Rattle.inter_credit.specs.Credits.{after_inter_spreads, credit_of, unspread_state}
 use Rattle.inter_credit.specs.declared.commodity_state.CommodityState.{CommodityState}
@@ -45,16 +44,3 @@ held_with_value kind net value = record {
   };
   net = net;
 }
-
--- a net quantity of contracts of a kind, without option value
-abbrev pub held_of_kind : ProductKind → ℤ → HeldContract
-held_of_kind kind net = held_with_value kind net 0
-
--- two short calls and three short puts, together with long puts and short futures
-abbrev pub short_calls_and_puts : List HeldContract
-short_calls_and_puts =
-    held_of_kind product.Call (short 2)
-    ∷ held_of_kind product.Put (short 3)
-    ∷ held_of_kind product.Put (pos 4)
-    ∷ held_of_kind product.Future (short 5)
-    ∷ []

@@ -39,7 +39,7 @@ pub record IsTables (t : AcceptedTables) (terms : List Terms) (intras : List (Li
     (inters : List Inter) (tiers : List (List Tier)) : Type 0 where
   pub accepted : IsAccepted t
   pub limits : IsWithinLimits t
-  pub terms_are : terms ≡ map (terms_of t.commodities t.tiers) t.contracts
+  pub terms_are : terms ≡ map (terms_of t.commodities) t.contracts
   pub every_intra : length intras ≡ length t.commodities
   pub intras_are : (c : ℕ) → c < length t.commodities → slice_index_or intras c [] ≡ intras_of t (commodity_id t c)
   pub every_spot : length spots ≡ length t.commodities

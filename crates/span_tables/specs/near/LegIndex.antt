@@ -37,7 +37,7 @@ no_words = record { first = record { a = 0; b = 0 }; last = record { a = 0; b = 
 abbrev pub words_at : LegIndex → ℕ → LegWords
 words_at index number = slice_index_or index.slots (number % BITS) no_words
 
--- a spread is among those of the slot of its first leg, and of its last leg
+-- a spread is among the spreads of the slot of its first leg, and of the slot of its last leg
 pub record HasEnds (index : LegIndex) (spread : ℕ) (f l : LegAt) : Type 0 where
   pub first : bit_at (on_side f.side (words_at index f.number).first) spread ≡ 1
   pub last : bit_at (on_side l.side (words_at index l.number).last) spread ≡ 1

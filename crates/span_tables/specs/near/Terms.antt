@@ -1,49 +1,36 @@
 -- The terms of contracts, from which figures are computed.
-use Rattle.std.specs.Prelude.{◌≡◌, ◌≤◌, ◌*◌, ◌&&◌, Bool, bytes_eq, filter, nat_le, ℕ, ◌*ℤ◌, pos, nat_abs, List}
+use Rattle.std.specs.Prelude.{◌≡◌, ◌≤◌, ◌*◌, ℕ, ◌*ℤ◌, pos, nat_abs, List}
 use Rattle.std.specs.Prelude.{length, map, All, option_map, slice_get, unwrap_or}
-use Rattle.std.specs.List.{position_or_len}
 use Rattle.span_tables.specs.Accepted.{commodity_number}
 use Rattle.span_tables.specs.declared.contracts.Terms.{Terms}
 use Rattle.span_tables.specs.declared.limits.TheConstants.{MAX_ARRAY_VALUE, MAX_DELTA, MAX_OPTION_VALUE, MAX_SCALE, SCENARIOS}
 use Rattle.span_tables.specs.declared.records.Commodity.{Commodity}
 use Rattle.span_tables.specs.declared.records.Contract.{Contract}
-use Rattle.span_tables.specs.declared.records.Tier.{Tier}
 
--- the month is in the tier
-abbrev pub has_month : ℕ → Tier → Bool
-has_month month tier = nat_le tier.first month && nat_le month tier.last
-
--- the number of the tier that a month is in, among the tiers of a commodity, or the number of these if it is in none
-abbrev pub tier_number : List Tier → List ℕ → ℕ → ℕ
-tier_number tiers commodity month = position_or_len (has_month month) (filter (λ t. bytes_eq t.commodity commodity) tiers)
-
--- the terms of a contract of the commodity and of the tier with these numbers
-abbrev pub numbered_terms : ℕ → ℕ → Contract → Terms
-numbered_terms number tier x = record {
+-- the terms of a contract of the commodity with this number
+abbrev pub numbered_terms : ℕ → Contract → Terms
+numbered_terms number x = record {
   values = x.values;
   units = x.delta *ℤ pos x.scale;
   month = x.month;
   option_value = x.extras.option_value;
   commodity = number;
-  tier = tier;
   kind = x.kind;
 }
 
--- the terms of a contract, with the numbers that its commodity and its tier have among these
-abbrev pub terms_of : List Commodity → List Tier → Contract → Terms
-terms_of commodities tiers x =
-    numbered_terms (commodity_number commodities x.commodity) (tier_number tiers x.commodity x.month) x
+-- the terms of a contract, with the number that its commodity has among these
+abbrev pub terms_of : List Commodity → Contract → Terms
+terms_of commodities x = numbered_terms (commodity_number commodities x.commodity) x
 
 -- the records and the terms of contracts
 pub record ContractsView : Type 0 where
   pub records : List Contract
   pub terms : List Terms
 
--- the terms are the terms of the records, for some commodities and tiers
+-- the terms are the terms of the records, for some commodities
 pub record AreTerms (records : List Contract) (terms : List Terms) : Type 0 where
   pub commodities : List Commodity
-  pub tiers : List Tier
-  pub are : terms ≡ map (terms_of commodities tiers) records
+  pub are : terms ≡ map (terms_of commodities) records
 
 -- the terms have the fields of the contract's record
 pub record AreTermsOf (x : Contract) (t : Terms) : Type 0 where

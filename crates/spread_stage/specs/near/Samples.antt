@@ -6,7 +6,6 @@ use Rattle.span_tables.specs.declared.records.ProductKind.TheVariants as product
 use Rattle.span_tables.specs.declared.sides.Side.TheVariants as side
 use Rattle.span_tables.specs.declared.records.Contract.{Contract}
 use Rattle.span_tables.specs.Net.{HeldContract}
-use Rattle.span_tables.specs.declared.limits.TheConstants.{MAX_DELTA, MAX_SCALE}
 use Rattle.spread_stage.specs.declared.months.MonthUnits.{MonthUnits}
 use Rattle.span_tables.specs.declared.records.Intra.{Intra}
 use Rattle.span_tables.specs.declared.records.Spot.{Spot}
@@ -32,19 +31,6 @@ calendar_spread ratio = record {
       ∷ record { first = 202505; last = 202512; side = side.B; ratio = ratio } ∷ [];
 }
 
--- a spread of all months of 2025 against themselves
-abbrev pub own_spread : Intra
-own_spread = record {
-  priority = 1;
-  rate = 250;
-  legs = record { first = 202501; last = 202512; side = side.A; ratio = 10000 }
-      ∷ record { first = 202501; last = 202512; side = side.B; ratio = 10000 } ∷ [];
-}
-
 -- the spot month 202503
 abbrev pub march : Spot
 march = record { commodity = codes "AA"; month = 202503; spread_rate = 10; outright_rate = 20 }
-
--- a contract with the largest delta and scale
-abbrev pub largest : Contract
-largest = record (future 202503) { delta = pos MAX_DELTA; scale = MAX_SCALE }

@@ -8,16 +8,6 @@ use Rattle.plan_ir.specs.Values.{no_figures}
 use Rattle.plan_ir.specs.declared.figures.Figures.{Figures}
 use Rattle.step_scheduler.specs.declared.held_figures.HeldFigures.{HeldFigures}
 
--- the list contains the figures of the first commodities, in order
-abbrev pub AreFirstFigures : AcceptedTables → List Holding → List Figures → Type 0
-AreFirstFigures t holdings figures =
-    (c : ℕ) → c < length figures → (d : Figures) → slice_index_or figures c d ≡ figures_of t holdings c
-
--- the list contains the figures of all commodities
-pub record AreAllFigures (t : AcceptedTables) (holdings : List Holding) (figures : List Figures) : Type 0 where
-  pub every : length figures ≡ length t.commodities
-  pub each : AreFirstFigures t holdings figures
-
 -- the index of a commodity's figures
 abbrev pub place_of : HeldFigures → ℕ → ℕ
 place_of held c = slice_index_or held.places c 0

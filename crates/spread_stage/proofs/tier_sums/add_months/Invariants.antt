@@ -1,6 +1,9 @@
 use Rattle.std.proofs.Common.{take}
-use Rattle.spread_stage.specs.near.TierSums.{AreSums}
+use Rattle.spread_stage.specs.near.TierSums.{AreOpen, AreSums}
 use Rattle.spread_stage.proofs.tier_sums.add_months.Given as goal
 
-abbrev pub invariant-loop-month : goal.invariant-loop-month
-invariant-loop-month l = AreSums l.tiers (take l.month-index l.months) l.sums
+abbrev pub invariant-loop-place : goal.invariant-loop-place
+invariant-loop-place l = record {
+  sums : AreSums l.tiers (take l.place l.months) l.sums;
+  sides : AreOpen l.tiers l.sums l.sides;
+}

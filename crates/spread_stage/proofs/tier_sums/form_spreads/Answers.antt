@@ -1,11 +1,11 @@
-use Rattle.std.proofs.Common.{◌≡◌, ◌+◌, ◌<◌, ◌≤◌, ◌∙◌, List, ap, arith, bit_and, get_or, length, subst, sym}
+use Rattle.std.proofs.Common.{◌≡◌, ◌+◌, ◌<◌, ◌≤◌, ◌∙◌, List, ap, arith, get_or, length, subst, sym}
 use Rattle.std.specs.Int.{bit_at}
+use Rattle.spread_stage.specs.Months.{Shrinks}
 use Rattle.std.proofs.lemmas.List.Folds.{fold-map}
-use Rattle.std.proofs.lemmas.Nat.Bits.{bit_at_and}
 use Rattle.span_tables.specs.Accepted.{IsIntra}
 use Rattle.span_tables.specs.declared.sides.Direction.TheVariants.{ALong, AShort}
 use Rattle.span_tables.proofs.LegIndexLemmas.{neither}
-use Rattle.span_tables.proofs.WordFolds.{all_formed, formed_more, formed_past, narrowed, none_formed}
+use Rattle.span_tables.proofs.WordFolds.{all_formed, formed_more, formed_past, none_formed}
 use Rattle.spread_stage.specs.Spreads.{TierRests, spread_both_ways, unspread}
 use Rattle.spread_stage.specs.near.TierPlans.{intra_of}
 use Rattle.spread_stage.specs.near.TierSums.{IsClosed}
@@ -23,8 +23,8 @@ Out t s = IsLeftOut t (intra_of s)
 pub loop-number-init : goal.loop-number-init
 loop-number-init c =
     let spreads = c.args.plan.now.spreads.items in
-    let closed = all_closed c.args.tiers.now c.args.rests.now c.args.sums.now c.requires.sums c.args.plan.now c.requires.plan
-    c.requires.intras c.may_form-found.result c.may_form-found.ensures in
+    let closed = all_closed c.args.tiers.now c.args.rests.now c.args.sums.now c.requires.sums c.args.sides.now
+    c.requires.sides c.args.plan.now c.requires.plan c.requires.intras c.may_form-found.result c.may_form-found.ensures in
     record {
       formed = none_formed step Out (λ t s. left_out_changes t (intra_of s)) spreads (unspread c.args.rests.now) c.either-left.result
           (λ k e lt out d. closed k e d lt (neither c.may_form-found.result k (ap (λ w. bit_at w k) (sym c.either-left.ensures) ∙ out) d));
@@ -57,7 +57,7 @@ spread_open_ways-charge-requires-clause-not_a_long c none =
     read.1 ∙ ap (λ (xs : List TierSpread). get_or xs number spread) c.deref.ensures.value in
     let lt : number < length spreads = subst (λ (xs : List TierSpread). number < length xs) c.deref.ensures.value read.3.0 in
     subst (λ (x : TierSpread). IsClosed ALong c.loop-number.rests (intra_of x)) (sym at)
-    (c.loop-number.invariant.closed number spread ALong lt (bit_zero c.loop-number.found.a_long number _ c.has-a_long.ensures none))
+    (c.loop-number.invariant.closed number spread ALong lt (bit_zero c.may_form-found.result.a_long number _ c.has-a_long.ensures none))
 
 pub spread_open_ways-charge-requires-clause-not_a_short : goal.spread_open_ways-charge-requires-clause-not_a_short
 spread_open_ways-charge-requires-clause-not_a_short c none =
@@ -69,7 +69,7 @@ spread_open_ways-charge-requires-clause-not_a_short c none =
     read.1 ∙ ap (λ (xs : List TierSpread). get_or xs number spread) c.deref.ensures.value in
     let lt : number < length spreads = subst (λ (xs : List TierSpread). number < length xs) c.deref.ensures.value read.3.0 in
     subst (λ (x : TierSpread). IsClosed AShort c.loop-number.rests (intra_of x)) (sym at)
-    (c.loop-number.invariant.closed number spread AShort lt (bit_zero c.loop-number.found.a_short number _ c.has-a_short.ensures none))
+    (c.loop-number.invariant.closed number spread AShort lt (bit_zero c.may_form-found.result.a_short number _ c.has-a_short.ensures none))
 
 pub loop-number-preserved-in-Some-get : goal.loop-number-preserved-in-Some-get
 loop-number-preserved-in-Some-get c =
@@ -87,25 +87,18 @@ loop-number-preserved-in-Some-get c =
       rests = c.spread_open_ways-charge.new.rests;
       charge = c.loop-number.charge + c.spread_open_ways-charge.result;
     } in
-    let found = c.may_form-found-in-Some-get.result in
-    let closed = all_closed c.args.tiers.now after.rests c.spread_open_ways-charge.new.sums formed.sums c.args.plan.now c.requires.plan
-    c.requires.intras found c.may_form-found-in-Some-get.ensures in
-    let more = formed_more step Out (λ u s. left_out_changes u (intra_of s)) spreads (unspread c.args.rests.now) t
-    c.loop-number.left number c.take_first.new.word before.formed c.in-Some.ensures.first after spread lt at
-    (formed.value c.loop-number.charge)
-    (λ k x above short out d. still_closed d t.rests after.rests (intra_of (get_or spreads k x))
-    (formed.shrinks t.rests (shrinks_none t.rests)) (out d)) in
+    let less : Shrinks t.rests after.rests = formed.shrinks t.rests (shrinks_none t.rests) in
     record {
-      formed = narrowed step Out (λ u s. left_out_changes u (intra_of s)) spreads (unspread c.args.rests.now) after
-          c.take_first.new.word (bit_and c.take_first.new.word c.either.result) more
-          (λ k. omega (arith, bit_at_and c.take_first.new.word c.either.result k))
-          (λ k e short some out d. closed k e d short (neither found k (ap (λ w. bit_at w k) (sym c.either.ensures)
-          ∙ omega (arith, bit_at_and c.take_first.new.word c.either.result k, some, out)) d));
+      formed = formed_more step Out (λ u s. left_out_changes u (intra_of s)) spreads (unspread c.args.rests.now) t
+          c.loop-number.left number c.take_first.new.word before.formed c.in-Some.ensures.first after spread lt at
+          (formed.value c.loop-number.charge)
+          (λ k x above short out d. still_closed d t.rests after.rests (intra_of (get_or spreads k x)) less (out d));
       rise = formed.rise;
       less = omega (arith, before.less, formed.less);
       shrinks = λ months h. formed.shrinks months (before.shrinks months h);
       sums = formed.sums;
-      closed = closed;
+      closed = λ k e d short out.
+          still_closed d t.rests after.rests (intra_of (get_or spreads k e)) less (before.closed k e d short out);
     }
 
 pub loop-number-preserved : goal.loop-number-preserved

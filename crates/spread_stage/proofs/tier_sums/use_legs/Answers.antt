@@ -36,5 +36,5 @@ loop-leg-preserved c =
           c.loop-leg.invariant.sums
           (subst (λ n. IsChanged c.market_side-on.result n
           (sum_of c.loop-leg.sums c.market_side-on.result n - c.args.formed * c.from.result)
-          c.loop-leg.sums c.lower.new.self) c.from-in-loop-leg.ensures c.lower.ensures) _ c.use_leg.ensures;
+          c.loop-leg.sums c.lower.new.self) c.from-tier.ensures c.lower.ensures.sums) c.lower.ensures.spans _ c.use_leg.ensures;
     }

@@ -8,6 +8,7 @@ use Rattle.spread_stage.specs.Charges.{delivery_charge}
 use Rattle.spread_stage.specs.Deltas.{month_deltas, net_delta}
 use Rattle.spread_stage.specs.Spreads.{after_spreads}
 use Rattle.spread_stage.specs.near.SetPlans.{IsByTiers}
+use Rattle.spread_stage.specs.near.SpotIndex.{AreSpots}
 use Rattle.inter_credit.specs.OptionValue.{net_value_of}
 use Rattle.inter_credit.specs.Requirement.{minimum_of}
 use Rattle.plan_ir.specs.Figures.{commodity_at, deltas_at, no_commodity, tiers_at}
@@ -41,3 +42,6 @@ returns-clause-part c = λ holdings is.
       minimum = c.minimum-minimum.ensures.value ∙ (λ k. pos (minimum_of (commodity_is k).minimum_rate (commodity_is k).method (is k)));
       worth = λ has. c.worth_of.ensures has ∙ ap net_value_of is;
     }
+
+pub delivery-delivery-requires-clause-plan : goal.delivery-delivery-requires-clause-plan
+delivery-delivery-requires-clause-plan c = subst (AreSpots c.args.plan.now.spots) (sym c.spots.ensures.value) c.requires.plan.months

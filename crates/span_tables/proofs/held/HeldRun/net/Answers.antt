@@ -1,14 +1,9 @@
-use Rattle.std.proofs.Common.{◌≡◌, arith, get_or, pos, subst, sym, of_z, to_z, w64, nat_abs, slice_get, IfSome, ◌≤◌}
+use Rattle.std.proofs.Common.{◌≡◌, arith, get_or, subst, sym, of_z, to_z, w64, nat_abs, slice_get, IfSome, ◌≤◌}
 use Rattle.std.proofs.lemmas.Int.{ints}
 use Rattle.std.proofs.lemmas.List.{get_or_default}
 use Rattle.span_tables.specs.declared.limits.TheConstants.{MAX_NET}
-use Rattle.span_tables.specs.declared.portfolios.Holding.{Holding}
-use Rattle.span_tables.proofs.HeldLemmas.{held_len, net_kept, net_told}
+use Rattle.span_tables.proofs.HeldLemmas.{held_len, net_kept, net_told, nothing}
 use Rattle.span_tables.proofs.held.HeldRun.net.Goals as goal
-
--- what a look-up past the end gives
-abbrev nothing : Holding
-nothing = record { contract = 0; net = pos 0 }
 
 pub bounds-holdings-place : goal.bounds-holdings-place
 bounds-holdings-place c = let long = held_len _ _ _ c.self.view_is c.self.invariant in omega (arith, long, c.requires)

@@ -1,7 +1,5 @@
 use Rattle.span_tables.proofs.WithinLimits.{accepted_intras, accepted_limits, accepted_spots, accepted_tiers}
-use Rattle.span_tables.specs.Tables.{tiers_of}
-use Rattle.span_tables.specs.declared.limits.TheConstants.{MAX_TIERS}
-use Rattle.span_tables.proofs.GroupLemmas.{lengths, lists_few}
+use Rattle.span_tables.proofs.GroupLemmas.{lengths}
 use Rattle.span_tables.proofs.TablesMade.{are_tables}
 use Rattle.span_tables.proofs.tables.Tables.with_numbers.Goals as goal
 
@@ -13,16 +11,6 @@ of-requires-clause-apart c = rw c.as_slice-commodities.ensures.value (accepted_l
 
 pub of-requires-clause-known : goal.of-requires-clause-known
 of-requires-clause-known c = rw c.as_slice-commodities.ensures.value (accepted_limits _ c.requires).contracts_known
-
-pub of-requires-clause-every : goal.of-requires-clause-every
-of-requires-clause-every c = rw c.deref-3.ensures.value (lengths _ _ _ _ c.in_ok-tier_lists.ensures)
-
-pub of-requires-clause-few_tiers : goal.of-requires-clause-few_tiers
-unfolding tiers_of
-of-requires-clause-few_tiers c =
-    rw c.deref-3.ensures.value
-    (lists_few _ _ _ _ MAX_TIERS c.in_ok-tier_lists.ensures
-    (λ w. rw c.as_slice-tiers.ensures.value ((accepted_limits _ c.requires).few_tiers w.id)))
 
 pub of-requires-clause-in_range : goal.of-requires-clause-in_range
 of-requires-clause-in_range c = (accepted_limits _ c.requires).contracts_in_range
@@ -55,10 +43,10 @@ spots_by_commodity-requires-clause-known c =
 pub invariant_of-result : goal.invariant_of-result
 invariant_of-result c =
     let tiers = rw (c.as_slice-commodities.ensures.value, c.as_slice-tiers.ensures.value) at c.in_ok-tier_lists.ensures in
-    let terms = rw (c.as_slice-commodities.ensures.value, c.deref-3.ensures.value) at c.in_ok-contracts.ensures.terms in
+    let terms = rw c.as_slice-commodities.ensures.value at c.in_ok-contracts.ensures.terms in
     let intras = rw (c.as_slice-commodities.ensures.value, c.as_slice-spreads.ensures.value, c.deref.ensures.value) at
     c.in_ok-intras.ensures in
     let spots = rw (c.as_slice-commodities.ensures.value, c.as_slice-spots.ensures.value) at c.in_ok-spot_months.ensures in
     let inters = rw (c.as_slice-commodities.ensures.value, c.deref-2.ensures.value) at c.in_ok-inters.ensures in
     rw (c.in_ok-contracts-2.ensures.ok, c.in_ok-contracts.ensures.records)
-    (are_tables _ c.requires _ _ _ _ _ (terms _ tiers) (intras _ tiers) spots inters tiers)
+    (are_tables _ c.requires _ _ _ _ _ terms (intras _ tiers) spots inters tiers)

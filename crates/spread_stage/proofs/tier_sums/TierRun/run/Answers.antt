@@ -9,8 +9,8 @@ use Rattle.spread_stage.proofs.SetPlanLemmas.{tiers_are}
 use Rattle.spread_stage.proofs.SizeLemmas.{shrinks_none}
 use Rattle.spread_stage.proofs.tier_sums.TierRun.run.Goals as goal
 
-pub add_months-requires-clause-tiers : goal.add_months-requires-clause-tiers
-add_months-requires-clause-tiers c = tiers_are c.args.tiers.now c.requires.few c.requires.apart
+pub add_months-sides-requires-clause-tiers : goal.add_months-sides-requires-clause-tiers
+add_months-sides-requires-clause-tiers c = tiers_are c.args.tiers.now c.requires.few c.requires.apart
 
 pub form_spreads-self-inside-requires-clause-tiers : goal.form_spreads-self-inside-requires-clause-tiers
 form_spreads-self-inside-requires-clause-tiers c = tiers_are c.args.tiers.now c.requires.few c.requires.apart
