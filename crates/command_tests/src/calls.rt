@@ -2,10 +2,11 @@
 //! fails. The tests check that it succeeds once if there is memory and nothing fails, and the texts of read faults.
 use crate::builders::run_on;
 use sample_files::calendar::{COUNTS, PARAMS};
+use sources::marked_reader::MarkedReader;
 use sources::{ReadFault, Sources};
 use span_cli::disk::Disk;
 use span_cli::memory::InMemory;
-use span_cli::reading::{Turns, read_file, read_within};
+use span_cli::reading::{read_file, read_within};
 use span_cli::serving::{Request, serve};
 use span_cli::streams::Streams;
 use span_cli::words::request;
@@ -34,10 +35,10 @@ fn of_sources<R: Files + Abort>(rt: &R, alloc: Global) {
     assert!(rt; read.is_empty());
 }
 
-// Reading a reader to its end, by turns and as a file.
+// Reading a reader to its end, as marked and as a file.
 fn of_readers(rt: &impl Abort, alloc: Global) {
-    let mut turns = Turns::new(b"abc".as_slice(), 4);
-    let read = read_within(alloc, &mut turns, 3, 3).expect(rt, "bytes");
+    let mut reader = MarkedReader::new(b"abc".as_slice());
+    let read = read_within(alloc, &mut reader, 3, 3).expect(rt, "bytes");
     assert_eq!(rt; read.as_slice(), b"abc".as_slice());
     let read = read_file(alloc, b"abc".as_slice(), 3).expect(rt, "a file");
     assert_eq!(rt; read.as_slice(), b"abc".as_slice());

@@ -1,6 +1,7 @@
 //! Readers that return a few bytes at a time, are interrupted, fail, or never end.
 use sources::ReadFault;
-use span_cli::reading::{Turns, read_within};
+use sources::marked_reader::MarkedReader;
+use span_cli::reading::read_within;
 use std::alloc::Global;
 use std::io;
 use std::io::{ErrorKind, Read};
@@ -39,10 +40,10 @@ impl Read for Script {
     }
 }
 
-// Reads at most three bytes within eight turns.
+// Reads at most three bytes.
 fn read(alloc: Global, turns: &'static [Turn], last: Turn) -> Result<Vec<u8>, ReadFault> {
     let script = Script { turns, last, at: 0 };
-    read_within(alloc, &mut Turns::new(script, 8), 3, 3)
+    read_within(alloc, &mut MarkedReader::new(script), 3, 3)
 }
 
 #[test]
@@ -108,23 +109,6 @@ fn fails_where_a_turn_fails(rt: HostRuntime) {
     assert!(rt; is_refused(alloc, turns, Turn::Ends, ReadFault::Failed));
 }
 
-// A reader that is interrupted forever, and one that ends after its turns are used up.
-#[test]
-fn fails_where_the_turns_run_out(rt: HostRuntime) {
-    let alloc = rt.alloc();
-    assert!(rt; is_refused(alloc, &[], Turn::IsInterrupted, ReadFault::Failed));
-    assert!(rt;
-        is_refused(
-            alloc,
-            &[Turn::Gives(b"abc")],
-            Turn::IsInterrupted,
-            ReadFault::Failed
-        )
-    );
-    let turns = &[Turn::IsInterrupted; 8];
-    assert!(rt; is_refused(alloc, turns, Turn::Ends, ReadFault::Failed));
-}
-
 #[test]
 fn remembers_what_failed(rt: HostRuntime) {
     let alloc = rt.alloc();
@@ -133,13 +117,13 @@ fn remembers_what_failed(rt: HostRuntime) {
         last: Turn::Ends,
         at: 0,
     };
-    let mut turns = Turns::new(script, 8);
-    assert!(rt; read_within(alloc, &mut turns, 3, 3).is_ok() && !turns.failed());
+    let mut reader = MarkedReader::new(script);
+    assert!(rt; read_within(alloc, &mut reader, 3, 3).is_ok() && !reader.failed());
     let script = Script {
         turns: &[],
         last: Turn::Breaks,
         at: 0,
     };
-    let mut turns = Turns::new(script, 8);
-    assert!(rt; read_within(alloc, &mut turns, 3, 3).is_err() && turns.failed());
+    let mut reader = MarkedReader::new(script);
+    assert!(rt; read_within(alloc, &mut reader, 3, 3).is_err() && reader.failed());
 }

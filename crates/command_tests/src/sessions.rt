@@ -1,4 +1,4 @@
-//! Sessions with inputs that end, that end within a line and that fail, and with outputs that fail.
+//! Sessions with inputs that end, that end within a line, that are interrupted and that fail, and with outputs that fail.
 use crate::builders::{Breaking, Given, run_over};
 use sample_files::one_future::{PARAMS, POSITIONS};
 use span_cli::memory::InMemory;
@@ -28,6 +28,27 @@ impl Read for Cut {
             return Err(io::Error::from(ErrorKind::Other));
         }
         let count = self.bytes.len().min(buf.len()).min(3);
+        let (given, rest) = self.bytes.split_at(count);
+        buf[..count].copy_from_slice(given);
+        self.bytes = rest;
+        Ok(count)
+    }
+}
+
+// Returns its bytes one at a time, and is interrupted before each of them and before its end.
+#[derive(Drop)]
+struct Interrupted {
+    bytes: &'static [u8],
+    is_interrupted: bool,
+}
+
+impl Read for Interrupted {
+    fn read(&mut self, buf: &mut [u8]) -> io::Result<usize> {
+        self.is_interrupted = !self.is_interrupted;
+        if self.is_interrupted {
+            return Err(io::Error::from(ErrorKind::Interrupted));
+        }
+        let count = self.bytes.len().min(buf.len()).min(1);
         let (given, rest) = self.bytes.split_at(count);
         buf[..count].copy_from_slice(given);
         self.bytes = rest;
@@ -65,6 +86,16 @@ const FIRST_ANSWERS: usize = 92;
 #[test]
 fn answers_to_the_end_of_the_input(rt: HostRuntime) {
     assert!(rt; session_over(&rt, rt.alloc(), &WORDS, REQUESTS).is(0, ANSWERS, b""));
+}
+
+// An interrupted read is repeated.
+#[test]
+fn reads_on_after_interruptions(rt: HostRuntime) {
+    let input = Interrupted {
+        bytes: REQUESTS,
+        is_interrupted: false,
+    };
+    assert!(rt; session_over(&rt, rt.alloc(), &WORDS, input).is(0, ANSWERS, b""));
 }
 
 // A line that is cut off by a failure is not a request.

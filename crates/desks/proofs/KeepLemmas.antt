@@ -8,10 +8,10 @@ use Rattle.std.proofs.lemmas.Bool.{cases_Bool, cases_lt, le-ltb, lt-ltb}
 use Rattle.std.proofs.lemmas.List.{length-take, length-take-le, take-append-le, take_all}
 use Rattle.std.specs.Prelude.{nat_lt, ◌==◌}
 use Rattle.std.specs.Io.BufRead.{ends_with_byte, strip_last}
-use Rattle.desks.specs.Requests.{request_of_line, request_of_text}
+use Rattle.desks.specs.Requests.{Kept, request_of_line, request_of_text}
 use Rattle.desks.specs.declared.desk.TheConstants.{MAX_LINE}
 use Rattle.desks.specs.declared.kept_lines.TheConstants.{KEPT}
-use Rattle.desks.specs.near.Keeping.{Kept, added, kept_of, request_kept}
+use Rattle.desks.specs.near.Keeping.{added, kept_of, request_kept}
 
 -- if all bytes fit, all are kept
 pub added_whole : (kept : Kept) (bytes : List ℕ) → length kept.bytes ≤ KEPT → length bytes ≤ KEPT - length kept.bytes

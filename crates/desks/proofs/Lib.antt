@@ -1,8 +1,4 @@
-mod Walks
-mod ReadingLemmas
 mod KeepLemmas
-mod FeedLemmas
 mod RequestLemmas
-mod IntakeLemmas
-mod SayingLemmas
-mod DealingLemmas
+mod TakingLemmas
+pub mod DealingLemmas

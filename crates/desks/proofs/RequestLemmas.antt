@@ -61,6 +61,15 @@ whole_tail x xs whole =
       | inr none ↦ let e = rw none at whole in cc
     ]
 
+-- bytes that follow whole lines have their own whole lines
+pub whole_lines-append : (xs ys : List ℕ) → whole_lines xs ≡ xs → whole_lines (xs ++ ys) ≡ xs ++ whole_lines ys
+whole_lines-append [] ys whole = refl
+whole_lines-append (x ∷ xs) ys whole =
+    let tail = whole_tail x xs whole in
+    let some : list_any is_feed (x ∷ xs ++ ys) ≡ true =
+    list_any-append is_feed (x ∷ xs) ys ∙ ap (λ found. found || list_any is_feed ys) tail.0 in
+    rw some (ap (λ bytes. x ∷ bytes) (whole_lines-append xs ys tail.1))
+
 onto_some : (x : ℕ) (parts : List (List ℕ)) → onto_first x parts ≡ [] ∷ [] → ⊥
 onto_some x [] is = cc
 onto_some x (part ∷ parts) is = cc

@@ -39,3 +39,7 @@ asked_by (Err fault) line = []
 abbrev pub told_by : Result (Unit {0}) DeskFault → List ℕ → List Event
 told_by (Ok done) text = Told text ∷ []
 told_by (Err fault) text = []
+
+-- these events follow whatever was logged before
+abbrev pub Logs : {S : Type 0} → (S → List Event → S → Type 0) → S → List Event → S → Type 0
+Logs {S} log old events new = (from : S) (before : List Event) → log from before old → log from (before ++ events) new

@@ -25,3 +25,8 @@ requests_in input = flat_map request_of_line (slice_split is_feed input)
 abbrev pub whole_lines : List ℕ → List ℕ
 whole_lines [] = []
 whole_lines (b ∷ bs) = if list_any is_feed (b ∷ bs) then b ∷ whole_lines bs else []
+
+-- what is kept of a line: its first bytes, and whether it has more
+pub record Kept : Type 0 where
+  pub bytes : List ℕ
+  pub more : Bool

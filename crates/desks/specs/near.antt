@@ -1,10 +1,4 @@
-pub mod Desks
-pub mod Histories
-pub mod Notes
-pub mod Readings
 pub mod Keeping
 pub mod Closing
 pub mod Blocks
-pub mod Intakes
-pub mod Saying
-pub mod Dealing
+pub mod Lines

@@ -1,12 +1,13 @@
 //! Blocks of bytes that were read.
 ghost use Rattle.desks.specs.near.Blocks.{Cuts};
-ghost use Rattle.desks.specs.near.Readings.{IsReceived, IsStill};
-ghost use Rattle.std.specs.Prelude.{◌≡◌, ◌<◌, ◌≤◌, ◌++◌, [], IfOk, OnErr, OnOk, false, length, true};
+ghost use Rattle.sources.specs.Readings.{HasFailed};
+ghost use Rattle.std.specs.Io.KnownBytes.{Consumes, IsAtEnd};
+ghost use Rattle.std.specs.Prelude.{◌≡◌, ◌<◌, ◌≤◌, [], IfOk, Ok, OnErr, OnOk, false, length};
 
 use crate::desk::DeskFault;
 use crate::kept_lines::KeptLine;
-use crate::marked_reader::MarkedReader;
 use memchr::memchr;
+use sources::marked_reader::MarkedReader;
 use std::alloc::{AllocError, Global};
 use std::io::Read;
 use std::marker::Model;
@@ -45,29 +46,23 @@ impl Block {
         })
     }
 
-    // Reads the next bytes and returns their number, which is 0 only at the end of the reader.
-    pub(crate) fn fill<R: Read>(&mut self, reader: &mut MarkedReader<R>) -> Result<usize, DeskFault>
-        ensures received { reader.new.received ≡ reader.old.received ++ self.new }
-        ensures count { IfOk result (λ n. n ≡ length self.new) }
+    // Reads the next bytes, and returns whether there are any. There are none only at the end.
+    pub(crate) fn fill<R: Read>(&mut self, reader: &mut MarkedReader<R>) -> Result<bool, DeskFault>
+        ensures bytes { Consumes reader.old.bytes reader.new.bytes self.new }
         ensures few { length self.new ≤ BLOCK }
-        ensures given { reader.new.given ≡ reader.old.given }
-        ensures known { IsReceived reader.new.given reader.new.received reader.new.ended }
-
-        ensures still { IsStill reader.old → self.new ≡ [] }
-        ensures ended { IfOk result (λ n. n ≡ 0 → reader.new.ended ≡ true) }
-        ensures open { IfOk result (λ n. 0 < n → reader.new.ended ≡ false) }
-        ensures fresh { IfOk result (λ n. 0 < n → reader.old.ended ≡ false) }
-        ensures read { OnOk result ((reader.old.failed ≡ false) × (reader.new.failed ≡ false)) }
-        ensures empty { OnErr result (self.new ≡ []) }
-        ensures failed { OnErr result (reader.new.failed ≡ true) }
-        ensures cut_off { OnErr result ((reader.old.ended ≡ false) × (reader.new.ended ≡ false)) }
-        ensures turn { IfOk result (λ n. 0 < n → reader.new.turns < reader.old.turns) }
+        ensures left { OnOk result (reader.new.left < reader.old.left) }
+        ensures end { result ≡ Ok false → (self.new ≡ []) × IsAtEnd reader.new.bytes }
+        ensures failed { OnErr result ((self.new ≡ []) × HasFailed reader.new) }
     {
         self.at = 0;
         self.end = 0;
-        let count = reader.read(self.bytes.as_mut_slice())?;
-        self.end = count;
-        Ok(count)
+        match reader.read(self.bytes.as_mut_slice()) {
+            Ok(count) => {
+                self.end = count;
+                Ok(count > 0)
+            }
+            Err(_) => Err(DeskFault::Input),
+        }
     }
 
     // Moves the bytes up to the first line feed to a line, skips the line feed, and returns whether there is one. If

@@ -28,18 +28,16 @@ pub enum DeskFault {
 
 /// A device that hands over requests and takes answers, one at a time. Its log records both in their order.
 pub trait Desk {
-    ghost use Rattle.desks.specs.Events.{Event, asked_by, told_by};
+    ghost use Rattle.desks.specs.Events.{Event, Logs, asked_by, told_by};
     ghost use Rattle.desks.specs.declared.desk.Taken.TheVariants as taken;
-    ghost use Rattle.std.specs.Prelude.{◌≡◌, ◌<◌, ◌≤◌, ◌++◌, IfErr, List, Ok, length, ℕ};
+    ghost use Rattle.std.specs.Prelude.{◌≡◌, ◌<◌, ◌≤◌, IfErr, List, Ok, OnOk, length, ℕ};
 
-    // The events so far, in order.
-    ghost log: { Self → List Event };
+    // These events were logged, in this order, from one state of a desk to a later one. Code that is generic over desks
+    // knows it only from the calls that it makes.
+    ghost log: { Self → List Event → Self → Type 0 };
 
     // The request that was handed over last.
     ghost line: { Self → List ℕ };
-
-    // What no call changes: the two values are states of the same device.
-    ghost same: { Self → Self → Type 0 };
 
     // The requests ended, and all were handed over.
     ghost at_end: { Self → Type 0 } = { λ _. Unit {0} };
@@ -50,14 +48,16 @@ pub trait Desk {
     // A write of an answer failed.
     ghost unwritten: { Self → Type 0 } = { λ _. Unit {0} };
 
+    // All that was written was flushed.
+    ghost flushed: { Self → Type 0 };
+
     /// Hands over the next request. Lines without bytes are skipped, and one carriage return at the end of a line is
     /// not part of the request.
     fn next(&mut self) -> Result<Taken, DeskFault>
-        ensures log { log self.new ≡ log self.old ++ asked_by result (line self.new) }
+        ensures log { Logs log self.old (asked_by result (line self.new)) self.new }
         ensures kept { result ≡ Ok taken.Line → (0 < length (line self.new)) × (length (line self.new) ≤ MAX_LINE) }
         ensures end { result ≡ Ok taken.End → at_end self.new }
-        ensures fault { IfErr result (λ e. (e ≡ DeskFault.Input) × cut_off self.new) }
-        ensures same { same self.old self.new };
+        ensures fault { IfErr result (λ e. (e ≡ DeskFault.Input) × cut_off self.new) };
 
     /// Returns the request that was handed over last.
     fn line(&self) -> &[u8]
@@ -66,11 +66,7 @@ pub trait Desk {
     /// Takes an answer. If the result is `Ok`, the whole answer was written and flushed. If it is `Err`, a part of it
     /// may have been written.
     fn tell(&mut self, text: &[u8]) -> Result<(), DeskFault>
-        ensures log { log self.new ≡ log self.old ++ told_by result text.now }
-        ensures fault { IfErr result (λ e. (e ≡ DeskFault.Output) × unwritten self.new) }
-        ensures same { same self.old self.new };
-
-    ghost same_as_itself: { (a : Self) → same a a };
-
-    ghost same_as_before: { (a b c : Self) → same a b → same b c → same a c };
+        ensures log { Logs log self.old (told_by result text.now) self.new }
+        ensures flushed { OnOk result (flushed self.new) }
+        ensures fault { IfErr result (λ e. (e ≡ DeskFault.Output) × unwritten self.new) };
 }

@@ -1,37 +1,38 @@
 //! Readers whose bytes are cut into requests.
 ghost use Rattle.desks.specs.Events.{request_of};
-ghost use Rattle.desks.specs.Requests.{requests_in};
+ghost use Rattle.desks.specs.Takings.{Takes, coming};
+ghost use Rattle.desks.specs.declared.intake.Reach.TheVariants as reaches;
 ghost use Rattle.desks.specs.near.Closing.{request_taken};
-ghost use Rattle.desks.specs.near.Intakes.{Goes, IsFresh, IsIntake, IsLeft, Reads, behind, measure_of, settled};
 ghost use Rattle.desks.specs.near.Keeping.{kept_of};
-ghost use Rattle.desks.specs.near.Readings.{IsReceived};
-ghost use Rattle.std.specs.Prelude.{◌≡◌, ◌<◌, ◌≤◌, ◌++◌, [], IfOk, Ok, OnErr, Some, false, length, true};
+ghost use Rattle.desks.specs.near.Lines.{ReadsLine, end_read, measure_of, reach_after};
+ghost use Rattle.sources.specs.Readings.{HasFailed};
+ghost use Rattle.std.specs.Io.KnownBytes.{IsAtEnd};
+ghost use Rattle.std.specs.Prelude.{◌≡◌, ◌-◌, ◌<◌, ◌≤◌, ◌^◌, [], IfOk, None, Ok, OnErr, Some, false, length, true};
 
 use crate::blocks::Block;
 use crate::desk::{DeskFault, MAX_LINE, Taken};
 use crate::kept_lines::{Closed, KeptLine};
-use crate::marked_reader::MarkedReader;
+use sources::marked_reader::MarkedReader;
 use std::alloc::{AllocError, Global};
 use std::io::Read;
-use std::marker::Model;
 
-/// The requests of a reader: the reader, the block into which it reads, and the bytes kept of the line that was taken
-/// last.
+// How far an input was read: more may come, it ended, or a read of it failed. After the last two it is not read again.
+#[derive(Clone, Copy)]
+pub(crate) enum Reach {
+    Open,
+    Ended,
+    CutOff,
+}
+
+/// The requests of a reader: the reader, the bytes that were read and not yet taken, the line that was taken last, and
+/// how far the input was read.
 #[derive(Drop)]
 pub struct Requests<R: Read> {
     reader: MarkedReader<R>,
     block: Block,
     line: KeptLine,
-}
-
-impl<R: Read> Model for Requests<R> {
-    ghost use Rattle.desks.specs.near.Intakes.{Intake, IsIntake};
-
-    ghost Value = { Intake };
-
-    ghost view = { λ r. record { reading = r.reader; unread = r.block; line = r.line.bytes } };
-
-    ghost invariant = { λ r. IsIntake r.reader r.block };
+    reach: Reach,
+    ghost cut_off: { reach ≡ reaches.CutOff → HasFailed reader },
 }
 
 // Reads until the line is complete, and returns whether it ends in a line feed rather than at the end of the input.
@@ -41,32 +42,44 @@ fn complete<R: Read>(
     line: &mut KeptLine,
 ) -> Result<bool, DeskFault>
     requires fresh { line.old ≡ kept_of [] }
-    requires known { IsReceived reader.old.given reader.old.received reader.old.ended }
-
-    ensures reads { Reads reader.old reader.new block.old (behind result block.new) line.new }
-    ensures left { IsLeft result block.new }
-    ensures goes { Goes reader.old reader.new result }
-    ensures known { IsReceived reader.new.given reader.new.received reader.new.ended }
+    ensures reads { ReadsLine (coming block.old reader.old) (coming block.new reader.new) line.new (end_read result) }
+    ensures end { result ≡ Ok false → IsAtEnd (coming block.new reader.new) }
+    ensures failed { OnErr result (HasFailed reader.new) }
     ensures measure { result ≡ Ok true → measure_of reader.new block.new < measure_of reader.old block.old }
 {
     while !block.cut(line) {
-        if block.fill(reader)? == 0 {
+        if !block.fill(reader)? {
             return Ok(false);
         }
     }
     Ok(true)
 }
 
+// How far the input was read, by the result of reading a line.
+fn reached(completed: Result<bool, DeskFault>) -> Reach
+    ensures { result ≡ reach_after completed }
+{
+    match completed {
+        Ok(true) => Reach::Open,
+        Ok(false) => Reach::Ended,
+        Err(_) => Reach::CutOff,
+    }
+}
+
 impl<R: Read + Drop> Requests<R> {
     /// Creates the requests of a reader, before the first is taken. Allocates all memory that they need.
+    #[tactic(auto, using(crate::proofs::TakingLemmas::all_coming))]
     pub fn new(alloc: Global, reader: R) -> Result<Requests<R>, AllocError>
-        ensures given { IfOk result (λ r. r.reading.given ≡ R.remaining reader) }
-        ensures fresh { IfOk result IsFresh }
+        ensures bytes { IfOk result (λ r. coming r.block r.reader ≡ R.remaining reader) }
+        ensures left { IfOk result (λ r. r.reader.left ≡ 2 ^ 64 - 1) }
+        ensures failed { IfOk result (λ r. r.reader.failed ≡ false) }
+        ensures reach { IfOk result (λ r. r.reach ≡ Reach.Open) }
     {
         Ok(Requests {
             reader: MarkedReader::new(reader),
             block: Block::new(alloc)?,
             line: KeptLine::new(alloc)?,
+            reach: Reach::Open,
         })
     }
 }
@@ -74,32 +87,36 @@ impl<R: Read + Drop> Requests<R> {
 impl<R: Read> Requests<R> {
     // Takes the next line, and returns its request if it is one, or the end of the input.
     fn take_line(&mut self) -> Result<Option<Taken>, DeskFault>
-        ensures taken { requests_in (settled self.new) ≡ requests_in (settled self.old) ++ request_taken result self.new.line }
-        ensures kept { result ≡ Ok (Some Taken.Line) → (0 < length self.new.line) × (length self.new.line ≤ MAX_LINE) }
-        ensures end { result ≡ Ok (Some Taken.End) → self.new.reading.ended ≡ true }
-        ensures failed { OnErr result ((self.new.reading.failed ≡ true) × (self.new.reading.ended ≡ false)) }
-        ensures given { self.new.reading.given ≡ self.old.reading.given }
-        ensures known { IsIntake self.new.reading self.new.unread }
-        ensures measure { result ≡ Ok None → measure_of self.new.reading self.new.unread < measure_of self.old.reading self.old.unread }
+        requires { self.old.reach ≡ Reach.Open }
+        ensures takes { Takes self.old.reach (coming self.old.block self.old.reader) self.new.reach
+            (coming self.new.block self.new.reader) (request_taken result self.new.line.bytes) }
+        ensures kept { result ≡ Ok (Some Taken.Line) → (0 < length self.new.line.bytes) × (length self.new.line.bytes ≤ MAX_LINE) }
+        ensures more { result ≡ Ok None → self.new.reach ≡ Reach.Open }
+        ensures end { result ≡ Ok (Some Taken.End) → self.new.reach ≡ Reach.Ended }
+        ensures failed { OnErr result (self.new.reach ≡ Reach.CutOff) }
+        ensures measure { result ≡ Ok None
+            → measure_of self.new.reader self.new.block < measure_of self.old.reader self.old.block }
     {
         self.line.clear();
-        let is_complete = complete(&mut self.reader, &mut self.block, &mut self.line)?;
-        match self.line.close() {
-            Closed::Line => Ok(Some(Taken::Line)),
-            Closed::TooLong => Ok(Some(Taken::TooLong)),
-            Closed::Empty if is_complete => Ok(None),
-            Closed::Empty => Ok(Some(Taken::End)),
-        }
+        let completed = complete(&mut self.reader, &mut self.block, &mut self.line);
+        self.reach = reached(completed);
+        let is_complete = completed?;
+        Ok(match self.line.close() {
+            Closed::Line => Some(Taken::Line),
+            Closed::TooLong => Some(Taken::TooLong),
+            Closed::Empty if is_complete => None,
+            Closed::Empty => Some(Taken::End),
+        })
     }
 
-    // Takes the next request.
-    pub(crate) fn next(&mut self) -> Result<Taken, DeskFault>
-        ensures taken { requests_in (settled self.new) ≡ requests_in (settled self.old) ++ request_of result self.new.line }
-        ensures kept { result ≡ Ok Taken.Line → (0 < length self.new.line) × (length self.new.line ≤ MAX_LINE) }
-        ensures end { result ≡ Ok Taken.End → self.new.reading.ended ≡ true }
-        ensures failed { OnErr result ((self.new.reading.failed ≡ true) × (self.new.reading.ended ≡ false)) }
-        ensures given { self.new.reading.given ≡ self.old.reading.given }
-        ensures known { IsIntake self.new.reading self.new.unread }
+    // Takes the next request of a reader that may have more.
+    fn take(&mut self) -> Result<Taken, DeskFault>
+        requires { self.old.reach ≡ Reach.Open }
+        ensures takes { Takes self.old.reach (coming self.old.block self.old.reader) self.new.reach
+            (coming self.new.block self.new.reader) (request_of result self.new.line.bytes) }
+        ensures kept { result ≡ Ok Taken.Line → (0 < length self.new.line.bytes) × (length self.new.line.bytes ≤ MAX_LINE) }
+        ensures end { result ≡ Ok Taken.End → self.new.reach ≡ Reach.Ended }
+        ensures failed { OnErr result (self.new.reach ≡ Reach.CutOff) }
     {
         loop {
             if let Some(taken) = self.take_line()? {
@@ -108,9 +125,24 @@ impl<R: Read> Requests<R> {
         }
     }
 
+    // Takes the next request.
+    pub(crate) fn next(&mut self) -> Result<Taken, DeskFault>
+        ensures takes { Takes self.old.reach (coming self.old.block self.old.reader) self.new.reach
+            (coming self.new.block self.new.reader) (request_of result self.new.line.bytes) }
+        ensures kept { result ≡ Ok Taken.Line → (0 < length self.new.line.bytes) × (length self.new.line.bytes ≤ MAX_LINE) }
+        ensures end { result ≡ Ok Taken.End → self.new.reach ≡ Reach.Ended }
+        ensures failed { OnErr result (self.new.reach ≡ Reach.CutOff) }
+    {
+        match self.reach {
+            Reach::Open => self.take(),
+            Reach::Ended => Ok(Taken::End),
+            Reach::CutOff => Err(DeskFault::Input),
+        }
+    }
+
     // Returns the request that was taken last.
     pub(crate) fn line(&self) -> &[u8]
-        ensures { result.now ≡ self.now.line }
+        ensures { result.now ≡ self.now.line.bytes }
     {
         self.line.as_slice()
     }

@@ -28,7 +28,7 @@ pub(crate) struct KeptLine {
 
 impl Model for KeptLine {
     ghost use Rattle.desks.specs.declared.kept_lines.TheConstants.{KEPT};
-    ghost use Rattle.desks.specs.near.Keeping.{Kept};
+    ghost use Rattle.desks.specs.Requests.{Kept};
     ghost use Rattle.std.specs.Prelude.{◌≤◌, length, vec_capacity};
 
     ghost Value = { Kept };

@@ -3,9 +3,7 @@
 
 mod blocks;
 pub mod desk;
-mod histories;
 pub mod intake;
 mod kept_lines;
-mod marked_reader;
 pub mod stream_desk;
 mod worked;

@@ -20,7 +20,7 @@ use Rattle.session.specs.Refusals.{Refused, refused_by}
 use Rattle.session.specs.Refusals as refused
 use Rattle.session.specs.declared.refusals.Refusal.{Refusal}
 use Rattle.session.specs.near.Answering.{is_memory}
-use Rattle.session.proofs.LossLemmas.{if_either, if_memory, refuses_memory}
+use Rattle.session.proofs.SessionLemmas.{if_either, if_memory, refuses_memory}
 use Rattle.session.proofs.TriedLemmas.{same_fault, same_tried}
 
 -- the holdings of one account fit, if the holdings of all accounts do

@@ -2,9 +2,9 @@
 use Rattle.std.proofs.Common.{◌≡◌, ◌∙◌, ◌<◌, ℕ, Bool, true, false, cond, ◌||◌, ◌&&◌, List, [], ◌∷◌, ◌++◌, length, map}
 use Rattle.std.proofs.Common.{filter}
 use Rattle.std.proofs.Common.{Option, Some, None, Result, Ok, Err, refl, sym, ap, subst, arith, append_assoc}
-use Rattle.std.specs.Prelude.{pos, ◌+◌, ◌-◌, ◌*◌, ◌%◌, ◌==◌, ⊤, All, bytes_eq, drop, if◌then◌else◌, is_ok, nat_le, nat_lt}
+use Rattle.std.specs.Prelude.{pos, ◌+◌, ◌==◌, ⊤, All, bytes_eq, drop, if◌then◌else◌, is_ok, nat_lt}
 use Rattle.std.specs.List.{list_any}
-use Rattle.std.proofs.lemmas.Bool.{and_parts, eqb-true, ltb-true, or_parts}
+use Rattle.std.proofs.lemmas.Bool.{or_parts}
 use Rattle.std.proofs.lemmas.Int.{ints}
 use Rattle.std.proofs.lemmas.List.{append-nil}
 use Rattle.std.proofs.Common.{length-drop}
@@ -45,17 +45,17 @@ use Rattle.session.specs.Answers.{trade_records, tried, tried_answer, unchanged}
 use Rattle.session.specs.Conversations.{Turn, answer_of, answer_on, booked_by, booked_in, booked_records, is_set, request_on}
 use Rattle.session.specs.Conversations.{state_after, state_behind}
 use Rattle.session.specs.Positions.{position_lines}
-use Rattle.session.specs.Requests.{Asked, asked_for, fields_of, file_request, form_fault, has_trades, is_file_name, may_have}
-use Rattle.session.specs.Requests.{request_by, request_of, request_with, trades_of, unless, word_named}
+use Rattle.session.specs.Requests.{Asked, asked_for, fields_of, file_request, form_fault, is_file_name, may_have}
+use Rattle.session.specs.Requests.{request_by, request_of, request_with, unless, word_named}
 use Rattle.session.specs.Requests as asked
 use Rattle.session.specs.declared.faults.RequestFault.{RequestFault}
 use Rattle.session.specs.declared.faults.RequestFault.TheVariants as form
-use Rattle.session.specs.declared.requests.TheConstants.{MAX_TRADES}
 use Rattle.session.specs.declared.requests.Word.{Word}
 use Rattle.session.specs.declared.requests.Word.TheVariants as word
 use Rattle.session.specs.Refusals.{Refused}
 use Rattle.session.specs.Refusals as refused
-use Rattle.session.proofs.FormLemmas.{first_named}
+use Rattle.session.proofs.FormLemmas.{first_named, trades_behind_names}
+use Rattle.session.proofs.TradeLemmas.{enough, tradable}
 use Rattle.session.proofs.TriedLemmas.{account_is, one_order}
 
 -- ---- an account after other accounts
@@ -122,11 +122,6 @@ among_last (n ∷ names) account = by (bytes_eq account n) (among_last names acc
     by : (b : Bool) → is_among (names ++ account ∷ []) account ≡ true → (b || is_among (names ++ account ∷ []) account) ≡ true
     by true more = refl
     by false more = more
-
-if_twice : (b : Bool) (names : List (List ℕ)) (account : List ℕ) → is_among names account ≡ b
-    → distinct (names ++ account ∷ []) ≡ cond b (distinct names) (distinct names ++ account ∷ [])
-if_twice b names account e =
-    distinct-push names account ∙ ap (λ t. cond t (distinct names) (distinct names ++ account ∷ [])) e
 
 -- one name, repeated, after other names
 names_behind : (names : List (List ℕ)) (account : List ℕ) (t : Trade) (ts : List Trade)
@@ -298,30 +293,10 @@ module _ (params : List ℕ) (t : AcceptedTables) (accepted : accepted_of params
 
 -- ---- a FILL has trades
 
-trades_some : (fields : List (List ℕ)) → 1 < length fields → 0 < length (trades_of fields)
-trades_some [] some = absurd (omega (arith, some))
-trades_some (c ∷ []) some = absurd (omega (arith, some))
-trades_some (c ∷ q ∷ rest) some = omega arith
-
 -- if the request is a FILL, its account is a name, and it has trades
 unfoldable pub HasTrades : Asked → Type 0
 HasTrades (asked.Fill account trades) = (is_name account ≡ true) × (0 < length trades)
 HasTrades _ = ⊤
-
--- there is more than one field if there are trades after the first two
-drop_some : (fields : List (List ℕ)) → 0 < length (trades_of (drop 2 fields)) → 1 < length fields
-drop_some [] some = absurd (omega (arith, some))
-drop_some (x ∷ []) some = absurd (omega (arith, some))
-drop_some (x ∷ y ∷ rest) some = omega arith
-
-fill_some : (fields : List (List ℕ)) → has_trades 1 (length fields) ≡ true → 0 < length (trades_of (drop 2 fields))
-fill_some fields has =
-    let parts = and_parts (nat_lt 2 (length fields) && nat_le (length fields) (2 + 2 * MAX_TRADES)) ((length fields - 2) % 2 == 0) has in
-    let front = and_parts (nat_lt 2 (length fields)) (nat_le (length fields) (2 + 2 * MAX_TRADES)) parts.0 in
-    let most : 2 < length fields = ltb-true 2 (length fields) front.0 in
-    let even : (length fields - 2) % 2 ≡ 0 = eqb-true ((length fields - 2) % 2) 0 parts.1 in
-    let size = length-drop 2 fields in
-    trades_some (drop 2 fields) (omega (arith, most, even, size))
 
 -- the account of a FILL without a fault is a name
 fill_named : (fields : List (List ℕ)) → form_fault word.Fill fields ≡ None → 1 < length fields → is_name (text_at fields 1) ≡ true
@@ -345,7 +320,11 @@ asked_has word.Margin fields may free = by (length fields == 1)
 asked_has word.Explain fields may free = tt
 asked_has word.Try fields may free = tt
 asked_has word.Fill fields may free =
-    let some = fill_some fields may in (fill_named fields free (drop_some fields some), some)
+    let few = enough 1 (length fields) may in
+    let size = length-drop 2 fields in (
+      fill_named fields free (omega (arith, few)),
+      (tradable (drop 2 fields) (trades_behind_names word.Fill fields free) (omega (arith, few, size))).some,
+    )
 asked_has word.Set fields may free = tt
 asked_has word.Positions fields may free = tt
 

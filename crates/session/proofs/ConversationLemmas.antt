@@ -4,7 +4,7 @@ use Rattle.std.proofs.Common.{append-nil, append_assoc, arith}
 use Rattle.std.proofs.lemmas.List.{map-append}
 use Rattle.std.proofs.lemmas.List.Elements.{All-append, filter_map-append}
 use Rattle.std.specs.Prelude.{All, IfSome, is_ok}
-use Rattle.desks.specs.Events.{Asked, Event, Told}
+use Rattle.desks.specs.Events.{Asked, Event, Logs, Told}
 use Rattle.sources.specs.Files.{File, ReadGives}
 use Rattle.sources.specs.Reads.{ReadsAll}
 use Rattle.session.specs.Answers.{State}
@@ -61,15 +61,6 @@ state_behind_more turns s now next turn is_now is_next =
 
 -- ---- the log
 
--- nothing was added
-pub nothing_more : (old new : List Event) → new ≡ old ++ [] → new ≡ old
-nothing_more old new is = is ∙ append-nil old
-
--- the log of the first answer
-pub first_log : (s : State) (old new : List Event) (text : List ℕ)
-    → new ≡ old ++ Told text ∷ [] → text ≡ opening_text s → new ≡ old ++ log_of s []
-first_log s old new text is first = is ∙ ap (λ t. old ++ Told t ∷ []) first
-
 -- the events of one more turn
 events_more : (turns : List Turn) (n m : ℕ) (s : State) (turn : Turn) → m ≡ n + length turns
     → events_from n s (turns ++ turn ∷ [])
@@ -81,15 +72,34 @@ events_more (x ∷ turns) n m s turn is =
     ap (λ events. Asked x.request ∷ Told (answer_text n (answer_of s x)) ∷ events)
     (events_more turns (n + 1) m (state_after s (answer_of s x)) turn (omega arith))
 
-module _ (turns : List Turn) (s : State) (turn : Turn) (old log mid new : List Event) (is_log : log ≡ old ++ log_of s turns)
-    (is_mid : mid ≡ log ++ Asked turn.request ∷ []) where
-  -- the log of one more turn
-  pub log_more : (m : ℕ) (now : State) → m ≡ length turns + 1 → now ≡ state_behind s turns
-      → new ≡ mid ++ Told (answer_text m (answer_of now turn)) ∷ [] → new ≡ old ++ log_of s (turns ++ turn ∷ [])
-  log_more m now count is_now is_new =
-      let more = events_more turns 1 m s turn (omega arith) in
-      rw (is_new, is_mid, is_log, is_now, more) (simp append_assoc)
+module _ {D : Type 0} (log : D → List Event → D → Type 0) (old : D) where
+  -- events that are logged one after the other
+  logs_after : (mid new : D) (first last : List Event) → Logs log old first mid → Logs log mid last new → Logs log old (first ++ last) new
+  logs_after mid new first last h k = λ from before is.
+      subst (λ events. log from events new) (append_assoc before first last) (k from (before ++ first) (h from before is))
 
-  -- the log of a last request that has no answer
-  pub log_asked : new ≡ mid ++ [] → new ≡ old ++ log_of s turns ++ Asked turn.request ∷ []
-  log_asked is_new = nothing_more mid new is_new ∙ is_mid ∙ ap (λ events. events ++ Asked turn.request ∷ []) is_log
+  -- nothing more is logged
+  pub logs_same : (events : List Event) (now new : D) → Logs log old events now → Logs log now [] new → Logs log old events new
+  logs_same events now new is none =
+      subst (λ all. Logs log old all new) (append-nil events) (logs_after now new events [] is none)
+
+  module _ (turns : List Turn) (s : State) (turn : Turn) (now mid new : D) (is : Logs log old (log_of s turns) now)
+      (asked : Logs log now (Asked turn.request ∷ []) mid) where
+    asked_then : Logs log old (log_of s turns ++ Asked turn.request ∷ []) mid
+    asked_then = logs_after now mid (log_of s turns) (Asked turn.request ∷ []) is asked
+
+    -- the log of one more turn
+    pub logs_more : (m : ℕ) (at : State) → m ≡ length turns + 1 → at ≡ state_behind s turns
+        → Logs log mid (Told (answer_text m (answer_of at turn)) ∷ []) new → Logs log old (log_of s (turns ++ turn ∷ [])) new
+    logs_more m at count is_at told =
+        let answer = Told (answer_text m (answer_of (state_behind s turns) turn)) ∷ [] in
+        let same : (log_of s turns ++ Asked turn.request ∷ []) ++ answer ≡ log_of s (turns ++ turn ∷ []) =
+        append_assoc (log_of s turns) (Asked turn.request ∷ []) answer
+        ∙ ap (λ events. Told (opening_text s) ∷ events) (sym (events_more turns 1 m s turn (omega arith))) in
+        subst (λ events. Logs log old events new) same
+        (logs_after mid new (log_of s turns ++ Asked turn.request ∷ []) answer asked_then
+        (subst (λ now. Logs log mid (Told (answer_text m (answer_of now turn)) ∷ []) new) is_at told))
+
+    -- the log of a last request that has no answer
+    pub logs_asked : Logs log mid [] new → Logs log old (log_of s turns ++ Asked turn.request ∷ []) new
+    logs_asked none = logs_same (log_of s turns ++ Asked turn.request ∷ []) mid new asked_then none

@@ -18,7 +18,6 @@ use Rattle.binding.specs.declared.faults.OrderBindFault.{OrderBindFault}
 use Rattle.binding.specs.declared.faults.OrderBindFault.TheVariants as fault
 use Rattle.binding.specs.declared.trades.Trade.{Trade}
 use Rattle.session.specs.Answers.{State, fill_answer, filled_answer, has_no_place, if_fit, trade_records, tried, unfit}
-use Rattle.session.specs.Refusals.{Refused}
 use Rattle.session.specs.Refusals as refused
 use Rattle.session.proofs.AnswerLemmas.{if_no}
 use Rattle.session.proofs.TriedLemmas.{account_is}

@@ -40,6 +40,7 @@ use Rattle.session.specs.near.Kept.{AreOnce}
 use Rattle.session.specs.near.KeptStates.{IsKeptAccount, IsKeptState, by_number}
 use Rattle.session.proofs.AccountLemmas.{name_flip}
 use Rattle.session.proofs.CarriedLemmas.{carried_holds}
+use Rattle.session.proofs.CarryLemmas.{under_once}
 use Rattle.session.proofs.KeepLemmas.{state_filled, state_under, turns_keep}
 use Rattle.session.proofs.ReadStateLemmas.{accepted_ids, positions_read}
 use Rattle.session.proofs.TriedLemmas.{account_is, one_order}
@@ -178,12 +179,6 @@ module _ (s : State) (account : List ℕ) (u : Trade) (us : List Trade) where
 
 -- ---- the state under another parameter set
 
--- the accounts have the same names
-names_under : (old new : List Contract) (ps : List AccountHoldings)
-    → map (λ (p : AccountHoldings). p.account) (map (under_contracts old new) ps) ≡ map (λ p. p.account) ps
-names_under old new [] = refl
-names_under old new (p ∷ ps) = ap (λ names. p.account ∷ names) (names_under old new ps)
-
 module _ (old new : List Contract) (apart : has_repeat (λ x y. bytes_eq x.id y.id) old ≡ false)
     (new_apart : has_repeat (λ x y. bytes_eq x.id y.id) new ≡ false) where
   under_kept : (ps : List AccountHoldings) → AllByRecursion (IsKeptAccount old) ps
@@ -205,7 +200,7 @@ set_keeps s params t accepted kept =
     record {
       apart = ids.apart;
       named = ids.named;
-      once = subst (IsDistinct bytes_eq) (sym (names_under s.tables.contracts t.contracts s.accounts)) kept.once;
+      once = under_once s.tables.contracts t.contracts s.accounts kept.once;
       few = subst (λ n. n ≤ MAX_ACCOUNTS) (sym (length-map s.accounts (under_contracts s.tables.contracts t.contracts))) kept.few;
       accounts = under_kept s.tables.contracts t.contracts kept.apart ids.apart s.accounts kept.accounts;
     }

@@ -10,7 +10,6 @@ mod FillLemmas
 mod FormLemmas
 mod KeepLemmas
 mod KeptStateLemmas
-mod LossLemmas
 mod OrderLemmas
 mod ReadAgainLemmas
 mod ReadStateLemmas

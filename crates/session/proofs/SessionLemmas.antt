@@ -12,6 +12,7 @@ use Rattle.session.specs.Answers.{State, opened, under_accepted, under_tables}
 use Rattle.session.specs.Refusals.{refused_by}
 use Rattle.session.specs.Refusals as refused
 use Rattle.session.specs.declared.refusals.Refusal.{Refusal}
+use Rattle.session.specs.declared.refusals.Refusal.TheVariants as refusal
 use Rattle.session.specs.near.Answering.{is_memory}
 use Rattle.statement_text.specs.Statement.{accepted_of, portfolios_under, same, statement_bound, statement_of, statement_under}
 use Rattle.statement_text.specs.declared.faults.SpanFault.{SpanFault}
@@ -48,6 +49,29 @@ all_with_account P (q ∷ rest) p here all =
       by_name : (b : Bool) → All P (with_account rest p) → All P (if b then p ∷ rest else q ∷ with_account rest p)
       by_name true more = All-cons P p rest here (All-tail P q rest all)
       by_name false more = All-cons P q (with_account rest p) (All-head P q rest all) more
+
+-- ---- refusals
+
+-- only `Memory` is the refusal for lack of memory
+pub refuses_memory : (r : Refusal) → refused_by r ≡ refused.Memory → is_memory r ≡ true
+refuses_memory (refusal.Form e) is = cc
+refuses_memory refusal.UnknownAccount is = cc
+refuses_memory refusal.TooManyAccounts is = cc
+refuses_memory (refusal.UnknownContract field) is = cc
+refuses_memory (refusal.NetOutOfRange field) is = cc
+refuses_memory (refusal.TooManyHeld field) is = cc
+refuses_memory (refusal.Parameters e) is = cc
+refuses_memory (refusal.Lost a c) is = cc
+refuses_memory (refusal.File name) is = cc
+refuses_memory refusal.Memory is = refl
+
+pub if_memory : (A : Type 0) (b : Bool) → b ≡ true → MatchBool b ⊤ A
+if_memory A true is = tt
+if_memory A false is = cc
+
+pub if_either : {A : Type 0} (b : Bool) → A → MatchBool b ⊤ A
+if_either true a = tt
+if_either false a = a
 
 -- ---- another parameter set
 

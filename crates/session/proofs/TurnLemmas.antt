@@ -153,31 +153,31 @@ module _ {S : Type 0} (known : List ℕ → Option File) (reads : S → List ℕ
       (turn_reads_none known reads before after None memory (λ saved. refl) source) same refl (λ saved. (refl, spoken saved))
 
   -- a desk was given the answer to a request
-  pub turn_written : (request asked : Option (List ℕ)) (file : Option File) (old new : List Event) (result : Result (Unit {0}) DeskFault)
-      (text : List ℕ)
+  pub turn_written : (request asked : Option (List ℕ)) (file : Option File) (logged : List Event → Type 0)
+      (result : Result (Unit {0}) DeskFault) (text : List ℕ)
       → IsTurn known reads before s n (record { request = request; file = file; is_out_of_memory = false }) after next written
-      → request ≡ asked → text ≡ written → new ≡ old ++ told_by result text
+      → request ≡ asked → text ≡ written → logged (told_by result text)
       → (x : Turn) × (x.request ≡ asked) × AreFromSource known reads before (x ∷ []) after
-      × (next ≡ state_after s (answer_of s x)) × (new ≡ old ++ told_by result (answer_text n (answer_of s x)))
-  turn_written request asked file old new result text is same told log = (
+      × (next ≡ state_after s (answer_of s x)) × logged (told_by result (answer_text n (answer_of s x)))
+  turn_written request asked file logged result text is same told log = (
     record { request = request; file = file; is_out_of_memory = false },
     same,
     is.source,
     is.state,
-    log ∙ ap (λ t. old ++ told_by result t) (told ∙ is.answer refl),
+    subst (λ t. logged (told_by result t)) (told ∙ is.answer refl) log,
   )
 
   -- a desk was given the answer to a request for which memory ran out
-  pub turn_lost : (request asked : Option (List ℕ)) (file : Option File) (old new : List Event) (result : Result (Unit {0}) DeskFault)
-      (text : List ℕ)
+  pub turn_lost : (request asked : Option (List ℕ)) (file : Option File) (logged : List Event → Type 0)
+      (result : Result (Unit {0}) DeskFault) (text : List ℕ)
       → IsTurn known reads before s n (record { request = request; file = file; is_out_of_memory = true }) after next written
-      → request ≡ asked → text ≡ line (refused_line n refused.Memory) → new ≡ old ++ told_by result text
+      → request ≡ asked → text ≡ line (refused_line n refused.Memory) → logged (told_by result text)
       → (x : Turn) × (x.request ≡ asked) × AreFromSource known reads before (x ∷ []) after
-      × (next ≡ state_after s (answer_of s x)) × (new ≡ old ++ told_by result (answer_text n (answer_of s x)))
-  turn_lost request asked file old new result text is same told log = (
+      × (next ≡ state_after s (answer_of s x)) × logged (told_by result (answer_text n (answer_of s x)))
+  turn_lost request asked file logged result text is same told log = (
     record { request = request; file = file; is_out_of_memory = true },
     same,
     is.source,
     is.state,
-    log ∙ ap (λ t. old ++ told_by result t) told,
+    subst (λ t. logged (told_by result t)) told log,
   )

@@ -172,11 +172,11 @@ events_from n s (turn ∷ turns) =
 abbrev pub log_of : State → List Turn → List Event
 log_of s turns = Told (opening_text s) ∷ events_from 1 s turns
 
--- What a session wrote to the log of a desk, and how the log ends: with an answer or, if an answer could not be
--- written, with a request that has no answer.
-abbrev pub IsServed : State → Result (Unit {0}) DeskFault → List Turn → List Event → List Event → Type 0
-IsServed s (Ok done) turns before after = after ≡ before ++ log_of s turns
-IsServed s (Err desk.Input) turns before after = after ≡ before ++ log_of s turns
-IsServed s (Err desk.Output) turns before after =
-    ((turns ≡ []) × (after ≡ before))
-    ⊎ ((done : List Turn) × (last : Turn) × (turns ≡ done ++ last ∷ []) × (after ≡ before ++ log_of s done ++ Asked last.request ∷ []))
+-- What a session logged at a desk, and how the log ends: with an answer or, if an answer could not be written, with a
+-- request that has no answer.
+abbrev pub IsServed : State → Result (Unit {0}) DeskFault → List Turn → (List Event → Type 0) → Type 0
+IsServed s (Ok done) turns logged = logged (log_of s turns)
+IsServed s (Err desk.Input) turns logged = logged (log_of s turns)
+IsServed s (Err desk.Output) turns logged =
+    ((turns ≡ []) × logged [])
+    ⊎ ((done : List Turn) × (last : Turn) × (turns ≡ done ++ last ∷ []) × logged (log_of s done ++ Asked last.request ∷ []))

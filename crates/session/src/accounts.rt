@@ -8,20 +8,17 @@ ghost use Rattle.session.specs.near.Kept.{AreOnce};
 ghost use Rattle.span_tables.specs.Holdings.{fits};
 ghost use Rattle.std.specs.Prelude.{◌≡◌, ◌++◌, [], ⊤, All, IfErr, IfOk, MatchBool, None, OnErr, OnOk, Some, length, map};
 ghost use Rattle.std.specs.Prelude.{option_copied, option_map, true};
-ghost use Rattle.worker_pool.specs.Batches.{AllFit};
 
-use crate::carried::carried;
+use crate::carried::{carried, numbers_in};
 use crate::positions::push_records;
 use crate::refusals::Refusal;
-use crate::set_in_use::SetInUse;
 use indexmap::IndexMap;
 use span_tables::name::Name;
-use span_tables::portfolios::{Portfolio, Portfolios};
+use span_tables::portfolios::{Portfolio, Portfolios, copied};
 use span_tables::records::Contract;
 use span_tables::tables::Tables;
 use std::alloc::{AllocError, Global};
 use std::marker::Model;
-use whatif::portfolios::copied;
 
 /// The accounts of a session with their holdings, in their order, found by name. Contracts see the list of portfolios.
 #[derive(Drop)]
@@ -81,21 +78,20 @@ impl Accounts {
     pub(crate) fn under_set(
         &self,
         alloc: Global,
-        set: &mut SetInUse,
         old: &Tables,
+        new: &Tables,
     ) -> Result<Accounts, Refusal<'static>>
         requires { All (λ p. fits (length old.now.contracts) p.holdings ≡ true) self.now }
-        ensures same { set.new ≡ set.old }
-        ensures accounts { IfOk result (λ accounts. accounts ≡ map (under_contracts old.now.contracts set.old.tables.contracts) self.now) }
-        ensures fits { IfOk result (AllFit set.old) }
-        ensures known { OnOk result (lost_record old.now.contracts set.old.tables.contracts self.now ≡ None) }
+        ensures accounts { IfOk result (λ accounts. accounts ≡ map (under_contracts old.now.contracts new.now.contracts) self.now) }
+        ensures known { OnOk result (lost_record old.now.contracts new.now.contracts self.now ≡ None) }
         ensures lost { IfErr result (λ r. MatchBool (is_memory r) ⊤ (option_map (λ held. refused.Lost held.account held.contract)
-            (lost_record old.now.contracts set.old.tables.contracts self.now) ≡ Some (refused_by r))) }
+            (lost_record old.now.contracts new.now.contracts self.now) ≡ Some (refused_by r))) }
     {
         self.known();
+        let numbers = numbers_in(alloc, old, new)?;
         let mut all = Vec::with_capacity(alloc, self.len())?;
         for portfolio in self.by_name.values() {
-            let carried = carried(alloc, set, old, portfolio)?;
+            let carried = carried(alloc, old, new, &numbers, portfolio)?;
             all.push(carried).map_err(AllocError::from)?;
         }
         Ok(Accounts::new(alloc, Portfolios::new(all))?)

@@ -22,12 +22,11 @@ use binding::trades::Trade;
 use explanation::accounts::push_account;
 use span_tables::limits::MAX_ACCOUNTS;
 use span_tables::name::Name;
-use span_tables::portfolios::Portfolio;
+use span_tables::portfolios::{Portfolio, copied};
 use statement_text::lines::push_row;
 use std::alloc::Global;
 use std::sync::Arc;
 use step_scheduler::rows::Row;
-use whatif::portfolios::copied;
 
 // The number of names before the trades of a TRY, and of a FILL.
 const NAMES_OF_TRY: u8 = 2;

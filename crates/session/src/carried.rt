@@ -1,90 +1,100 @@
 //! The holdings of accounts under another parameter set (docs/SESSIONS.md, A new parameter set).
-ghost use Rattle.session.specs.Accounts.{held_records, under_contracts};
+ghost use Rattle.binding.specs.Binding.{is_unknown};
+ghost use Rattle.binding.specs.near.Holdings.{ids_of};
+ghost use Rattle.session.specs.Accounts.{contract_of, held_records, under_contracts};
 ghost use Rattle.session.specs.Refusals.{refused_by};
 ghost use Rattle.session.specs.Refusals as refused;
 ghost use Rattle.session.specs.near.Answering.{is_memory};
-ghost use Rattle.session.specs.near.Carried.{IsLoss, held_trade, held_trades, loss};
-ghost use Rattle.binding.specs.Binding.{is_unknown};
+ghost use Rattle.session.specs.near.Carried.{numbers_in};
 ghost use Rattle.span_tables.specs.Holdings.{fits};
-ghost use Rattle.std.specs.Prelude.{◌≡◌, ◌<◌, ⊤, IfErr, IfOk, MatchBool, None, OnOk, Some, find, length, option_map, true};
-ghost use Rattle.worker_pool.specs.Batches.{FitsSet};
+ghost use Rattle.span_tables.specs.declared.limits.TheConstants.{MAX_CONTRACTS};
+ghost use Rattle.std.specs.Prelude.{◌≡◌, ◌<◌, ◌≤◌, ⊤, IfErr, IfOk, MatchBool, None, OnOk, Some, bytes_eq, find, length, option_map};
+ghost use Rattle.std.specs.Prelude.{position, true};
 
 use crate::positions::contract_of;
 use crate::refusals::Refusal;
-use crate::set_in_use::SetInUse;
-use binding::faults::OrderBindFault;
-use binding::trades::Trade;
+use indexmap::IndexSet;
+use span_tables::name::Name;
 use span_tables::portfolios::{Holding, Portfolio};
-use span_tables::records::Contract;
 use span_tables::tables::Tables;
 use std::alloc::{AllocError, Global};
-use whatif::portfolios::copied;
 
-// A holding as a trade.
-fn held_trade(contracts: &[Contract], holding: &Holding) -> Trade
-    requires { holding.now.contract < length contracts.now }
-    ensures { result ≡ held_trade contracts.now holding.now }
+// The ids of the contracts of tables. The index of an id is the number of its contract.
+fn ids_of(alloc: Global, tables: &Tables) -> Result<IndexSet<Name>, AllocError>
+    ensures { IfOk result (λ ids. ids.keys ≡ ids_of tables.now.contracts) }
 {
-    Trade {
-        contract: contract_of(contracts, holding).copied(),
-        quantity: holding.net,
+    let mut ids = IndexSet::new(alloc);
+    for contract in tables.contracts() {
+        ids.insert(contract.id.copied())?;
     }
+    Ok(ids)
 }
 
-// The holdings of an account, as trades that add up to them.
-fn held_trades(
+// The index of an id, if it is among the ids.
+fn index_of(ids: &IndexSet<Name>, id: &Name) -> Option<u32>
+    requires { length ids.now.keys ≤ MAX_CONTRACTS }
+    ensures { result ≡ position (bytes_eq id.now) ids.now.keys }
+{
+    let index = ids.get_index_of(id)?;
+    Some(index as u32)
+}
+
+/// Returns for each contract of a parameter set its number in another one, or `None` if the other set lacks it.
+pub(crate) fn numbers_in(
     alloc: Global,
-    contracts: &[Contract],
-    portfolio: &Portfolio,
-) -> Result<Vec<Trade>, AllocError>
-    requires { fits (length contracts.now) portfolio.now.holdings ≡ true }
-    ensures { IfOk result (λ trades. trades.items ≡ held_trades contracts.now portfolio.now.holdings) }
+    old: &Tables,
+    new: &Tables,
+) -> Result<Vec<Option<u32>>, AllocError>
+    ensures { IfOk result (λ numbers. numbers.items ≡ numbers_in old.now.contracts new.now.contracts) }
 {
-    let mut trades = Vec::with_capacity(alloc, portfolio.holdings().len())?;
-    for holding in portfolio.holdings() {
-        trades.push(held_trade(contracts, holding))?;
+    new.known();
+    let ids = ids_of(alloc, new)?;
+    let mut numbers = Vec::with_capacity(alloc, old.contracts().len())?;
+    for contract in old.contracts() {
+        numbers.push(index_of(&ids, &contract.id))?;
     }
-    Ok(trades)
+    Ok(numbers)
 }
 
-// Why an account cannot keep its holdings under a parameter set: the set lacks a contract. The nets and their number
-// are the same as before.
-fn lost(portfolio: &Portfolio, trades: &[Trade], fault: OrderBindFault) -> Refusal<'static>
-    requires { IsLoss (length trades.now) fault }
-    ensures { refused_by result ≡ loss portfolio.now.account trades.now fault }
+// The refusal for a holding whose contract another parameter set lacks.
+fn lost(old: &Tables, portfolio: &Portfolio, holding: &Holding) -> Refusal<'static>
+    requires { holding.now.contract < length old.now.contracts }
+    ensures { refused_by result ≡ refused.Lost portfolio.now.account (contract_of old.now.contracts holding.now) }
 {
-    match fault {
-        OrderBindFault::UnknownContract { at, .. } => Refusal::Lost {
-            account: portfolio.account().copied(),
-            contract: trades[at - 1].contract.copied(),
-        },
-        OrderBindFault::OutOfMemory => Refusal::Memory,
-        OrderBindFault::NetOutOfRange { .. } | OrderBindFault::TooManyHeld { .. } => unreachable!(),
+    Refusal::Lost {
+        account: portfolio.account().copied(),
+        contract: contract_of(old.contracts(), holding).copied(),
     }
 }
 
 /// Returns the holdings of an account under another parameter set, or the first contract that the set lacks.
+/// `numbers` has for each contract its number in the other set.
 pub(crate) fn carried(
     alloc: Global,
-    set: &mut SetInUse,
     old: &Tables,
+    new: &Tables,
+    numbers: &[Option<u32>],
     portfolio: &Portfolio,
 ) -> Result<Portfolio, Refusal<'static>>
-    requires { fits (length old.now.contracts) portfolio.now.holdings ≡ true }
-    ensures same { set.new ≡ set.old }
-    ensures carried { IfOk result (λ p. p ≡ under_contracts old.now.contracts set.old.tables.contracts portfolio.now) }
-    ensures fits { IfOk result (FitsSet set.old) }
-    ensures known { OnOk result (find (is_unknown set.old.tables.contracts) (held_records old.now.contracts portfolio.now) ≡ None) }
+    requires fits { fits (length old.now.contracts) portfolio.now.holdings ≡ true }
+    requires numbers { numbers.now ≡ numbers_in old.now.contracts new.now.contracts }
+    ensures carried { IfOk result (λ p. p ≡ under_contracts old.now.contracts new.now.contracts portfolio.now) }
+    ensures known { OnOk result (find (is_unknown new.now.contracts) (held_records old.now.contracts portfolio.now) ≡ None) }
     ensures lost { IfErr result (λ r. MatchBool (is_memory r) ⊤ (option_map (λ held. refused.Lost held.account held.contract)
-        (find (is_unknown set.old.tables.contracts) (held_records old.now.contracts portfolio.now)) ≡ Some (refused_by r))) }
+        (find (is_unknown new.now.contracts) (held_records old.now.contracts portfolio.now)) ≡ Some (refused_by r))) }
 {
-    if portfolio.holdings().is_empty() {
-        return Ok(copied(alloc, portfolio)?);
+    old.known();
+    new.known();
+    let mut moved = Vec::with_capacity(alloc, portfolio.holdings().len())?;
+    for holding in portfolio.holdings() {
+        let Some(contract) = numbers[holding.contract as usize] else {
+            return Err(lost(old, portfolio, holding));
+        };
+        let net = holding.net;
+        moved
+            .push(Holding { contract, net })
+            .map_err(AllocError::from)?;
     }
-    set.tables().known();
-    let trades = held_trades(alloc, old.contracts(), portfolio)?;
-    match set.after(None, portfolio.account(), &trades) {
-        Ok(after) => Ok(after),
-        Err(fault) => Err(lost(portfolio, &trades, fault)),
-    }
+    moved.sort_by_key(|holding| holding.contract)?;
+    Ok(Portfolio::new(portfolio.account().copied(), moved))
 }

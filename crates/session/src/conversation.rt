@@ -1,7 +1,7 @@
 //! Whole sessions: the requests of a desk, and their answers, one after the other.
-ghost use Rattle.desks.specs.Events.{told_by};
+ghost use Rattle.desks.specs.Events.{Logs, told_by};
 ghost use Rattle.session.specs.Conversations.{AreFromSource, IsServed, Turn, answer_of, answer_text, opening_text, state_after};
-ghost use Rattle.std.specs.Prelude.{◌≡◌, ◌⊎◌, ◌-◌, ◌^◌, ◌++◌, [], ◌∷◌, Err, IfErr, List, None, OnOk, Some, if◌then◌else◌, length, ℕ};
+ghost use Rattle.std.specs.Prelude.{◌≡◌, ◌⊎◌, ◌-◌, ◌^◌, [], ◌∷◌, Err, IfErr, List, None, OnOk, Some, if◌then◌else◌, length, ℕ};
 
 use crate::answer_texts::refused_memory;
 use crate::session::{Opened, Workers, refuse_long};
@@ -24,9 +24,8 @@ fn serve_one<D: Desk, S: Sources, R: Threads + Wait + Clock + Sync, G: Gate>(
     ensures served { (turn : Turn) × (turn.request ≡ (if is_kept then Some (D.line desk.old) else None))
         × AreFromSource (S.file sources.old) S.reads sources.old (turn ∷ []) sources.new
         × (opened.new.session ≡ state_after opened.old.session (answer_of opened.old.session turn))
-        × (D.log desk.new ≡ D.log desk.old ++ told_by result (answer_text number (answer_of opened.old.session turn))) }
+        × Logs D.log desk.old (told_by result (answer_text number (answer_of opened.old.session turn))) desk.new }
     ensures fault { IfErr result (λ e. (e ≡ DeskFault.Output) × D.unwritten desk.new) }
-    ensures desk { D.same desk.old desk.new }
     ensures sources { (n : List ℕ) → S.file sources.new n ≡ S.file sources.old n }
 {
     let Opened { session, text } = opened;
@@ -51,11 +50,10 @@ pub fn run<D: Desk, S: Sources, R: Threads + Wait + Clock + Sync, G: Gate>(
 ) -> Result<(), DeskFault>
     requires { opened.old.text.items ≡ opening_text opened.old.session }
     ensures served { (turns : List Turn) × AreFromSource (S.file sources.old) S.reads sources.old turns sources.new
-        × IsServed opened.old.session result turns (D.log desk.old) (D.log desk.new)
+        × IsServed opened.old.session result turns (λ events. Logs D.log desk.old events desk.new)
         × OnOk result (D.at_end desk.new ⊎ (length turns ≡ 2 ^ 64 - 1)) }
     ensures input { result ≡ Err DeskFault.Input → D.cut_off desk.new }
     ensures output { result ≡ Err DeskFault.Output → D.unwritten desk.new }
-    ensures desk { D.same desk.old desk.new }
 {
     desk.tell(&opened.text)?;
     let mut number = 0;

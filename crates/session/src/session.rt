@@ -252,10 +252,9 @@ impl Session {
         ensures fits { IfOk result (ChangeFits self.now) }
     {
         let set = set_read(self.alloc, name, read)?;
-        let mut set = SetInUse::new(self.alloc, set)?;
-        let accounts = self
-            .accounts
-            .under_set(self.alloc, &mut set, self.set.tables())?;
+        let set = SetInUse::new(self.alloc, set)?;
+        let (old, new) = (self.set.tables(), set.tables());
+        let accounts = self.accounts.under_set(self.alloc, old, new)?;
         push_counts(self.alloc, out, &set)?;
         Ok(Change::Set(set, accounts))
     }

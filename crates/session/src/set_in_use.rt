@@ -15,7 +15,7 @@ use binding::orders::{OrderBinder, Orders};
 use binding::trades::{Trade, order_of_trades};
 use plan_compiler::set::CompiledSet;
 use span_tables::name::Name;
-use span_tables::portfolios::{Portfolio, Portfolios};
+use span_tables::portfolios::{Portfolio, Portfolios, copied};
 use span_tables::tables::Tables;
 use statement_text::lines::push_total_of;
 use std::alloc::{AllocError, Global};
@@ -24,7 +24,6 @@ use std::sync::Arc;
 use step_scheduler::rows::Row;
 use whatif::lines::Trial;
 use whatif::numbers::{Numbers, numbers_of};
-use whatif::portfolios::copied;
 use worker_pool::plain::Runs;
 
 /// A compiled parameter set, with what is prepared once for it: runs under it, and the binder of trades to its

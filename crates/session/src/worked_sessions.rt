@@ -18,14 +18,6 @@ fn trades()
         ∷ codes "R,X,D1,AA,3600,13,0,0,0,0,3600\nT,X,D1,3600\ndone,5\n" ∷ []) }
 {}
 
-// A new account is appended even if it holds nothing, and an account that no longer holds anything stays in the list.
-fn accounts()
-    ensures { session_of one_future (codes "X,FA,1\n") (asking (codes "FILL,N,FA,1,FA,-1") ∷ asking (codes "FILL,X,FA,-1")
-        ∷ asking (codes "POSITIONS") ∷ asking (codes "MARGIN") ∷ [])
-        ≡ Ok (codes "OK,D1,1,1,0,0,0,0\ndone,0\n" ∷ codes "T,N,D1,0\ndone,1\n" ∷ codes "T,X,D1,0\ndone,2\n"
-        ∷ codes "X,FA,0\nN,FA,0\ndone,3\n" ∷ codes "T,X,D1,0\nT,N,D1,0\ndone,4\n" ∷ []) }
-{}
-
 // A rejected request changes nothing and has a number.
 fn refusals()
     ensures { session_of one_future (codes "X,FA,60000\n") (asking (codes "FILL,X,FA,1,FZ,0,FY,1") ∷ asking (codes "TRY,BUY,X,FA,1,FZ,1")

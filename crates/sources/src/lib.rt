@@ -1,5 +1,7 @@
-//! Sources of files, which return the bytes of a file by its name.
+//! Sources of files, which return the bytes of a file by its name, and readers that remember failures.
 #![tactic(auto)]
+
+pub mod marked_reader;
 
 ghost use Rattle.sources.specs.Files.{File, ReadGives};
 ghost use Rattle.std.specs.Prelude.{◌≡◌, Bool, IfSome, List, None, Option, Some, is_ok, ℕ};

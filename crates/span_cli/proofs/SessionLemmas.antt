@@ -4,9 +4,11 @@ use Rattle.std.proofs.Common.{refl, sym, ap, subst, inl, inr, length}
 use Rattle.std.proofs.lemmas.List.{map-append}
 use Rattle.std.proofs.lemmas.List.Elements.{All-nil, All-weaker}
 use Rattle.std.specs.Prelude.{All, IfSome, OnOk, flat_map}
-use Rattle.desks.specs.near.Desks.{Dealings, IsAtEnd, IsCutOff, IsDealt}
-use Rattle.desks.specs.Events.{Asked, Event, Told, asked_in, told_in}
-use Rattle.desks.specs.Requests.{requests_in}
+use Rattle.desks.specs.Desks.{Dealing, Deals}
+use Rattle.desks.specs.Events.{Asked, Event, asked_in, told_in}
+use Rattle.desks.specs.Takings.{Takes}
+use Rattle.desks.specs.declared.intake.Reach.TheVariants as reach
+use Rattle.desks.proofs.DealingLemmas.{all_requests, asked_in-append, cut_off_requests, first_requests}
 use Rattle.desks.specs.declared.desk.DeskFault.{DeskFault}
 use Rattle.desks.specs.declared.desk.DeskFault.TheVariants as desk
 use Rattle.session.specs.Answers.{State}
@@ -24,21 +26,11 @@ use Rattle.span_cli.specs.near.Sessions.{TellsSession, ending_of, texts_from}
 abbrev flat : List (List ℕ) → List ℕ
 flat texts = flat_map (λ text. text) texts
 
--- a stronger property of an optional value implies a weaker one
-if_some_map : {X : Type 0} (o : Option X) (P Q : X → Type 0) → ((x : X) → P x → Q x) → IfSome o P → IfSome o Q
-if_some_map None P Q f h = tt
-if_some_map (Some x) P Q f h = f x h
-
 -- nothing is known of what a failed stream has
 says_failed : (old new : Stream) (bytes : List ℕ) → new.failed ≡ true → Says old new bytes
 says_failed old new bytes failed = rw failed tt
 
 -- ---- the log
-
-asked_in-append : (xs ys : List Event) → asked_in (xs ++ ys) ≡ asked_in xs ++ asked_in ys
-asked_in-append [] ys = refl
-asked_in-append (Asked request ∷ xs) ys = ap (λ requests. request ∷ requests) (asked_in-append xs ys)
-asked_in-append (Told text ∷ xs) ys = asked_in-append xs ys
 
 asked_from : (n : ℕ) (s : State) (turns : List Turn) → asked_in (events_from n s turns) ≡ requests_of turns
 asked_from n s [] = refl
@@ -57,119 +49,123 @@ asked_log s turns = asked_from 1 s turns
 told_log : (s : State) (turns : List Turn) → told_in (log_of s turns) ≡ flat (texts_from s turns)
 told_log s turns = ap (λ bytes. opening_text s ++ bytes) (told_from 1 s turns)
 
--- the log has the requests of the turns
-served_requests : (s : State) (r : Result (Unit {0}) DeskFault) (turns : List Turn) (log : List Event) → IsServed s r turns [] log
-    → asked_in log ≡ requests_of turns
-served_requests s (Ok done) turns log is = ap asked_in is ∙ asked_log s turns
-served_requests s (Err desk.Input) turns log is = ap asked_in is ∙ asked_log s turns
-served_requests s (Err desk.Output) turns log (inl (none, is)) = ap asked_in is ∙ sym (ap requests_of none)
-served_requests s (Err desk.Output) turns log (inr (done, last, parts, is)) =
-    ap asked_in is
-    ∙ asked_in-append (log_of s done) (Asked last.request ∷ [])
-    ∙ ap (λ requests. requests ++ last.request ∷ []) (asked_log s done)
-    ∙ sym (map-append (λ (t : Turn). t.request) done (last ∷ []))
-    ∙ sym (ap requests_of parts)
+-- some events were logged
+pub some_logged : (s : State) (r : Result (Unit {0}) DeskFault) (turns : List Turn) (logged : List Event → Type 0)
+    → IsServed s r turns logged → (events : List Event) × logged events
+some_logged s (Ok done) turns logged is = (log_of s turns, is)
+some_logged s (Err desk.Input) turns logged is = (log_of s turns, is)
+some_logged s (Err desk.Output) turns logged (inl (none, is)) = ([], is)
+some_logged s (Err desk.Output) turns logged (inr (done, last, parts, is)) = (log_of s done ++ Asked last.request ∷ [], is)
 
 -- ---- the end
 
-module _ (file : List ℕ → Option File) (s : State) (turns : List Turn) (d : Dealings) (dealt : IsDealt d) where
-  module _ (r : Result (Unit {0}) DeskFault) (served : IsServed s r turns [] d.log) where
-    requests_are : asked_in d.log ≡ requests_of turns
-    requests_are = served_requests s r turns d.log served
+-- a session between these two states of its desk
+module _ (s : State) (old new : Dealing) (logged : List Event → Type 0)
+    (deals : (events : List Event) → logged events → Deals old events new) (begun : old.reach ≡ reach.Open) (turns : List Turn) where
+  taken : (events : List Event) → logged events → asked_in events ≡ requests_of turns
+      → Takes reach.Open old.coming new.reach new.coming (requests_of turns)
+  taken events is same =
+      subst (λ asked. Takes reach.Open old.coming new.reach new.coming asked) same
+      (subst (λ from. Takes from old.coming new.reach new.coming (asked_in events)) begun (deals events is).takes)
 
-    first : IfSome d.given (λ bytes. (more : List (Option (List ℕ))) × (requests_in bytes ≡ requests_of turns ++ more))
-    first =
-        if_some_map d.given _ (λ bytes. (more : List (Option (List ℕ))) × (requests_in bytes ≡ requests_of turns ++ more))
-        (λ bytes h. (h.0, h.1 ∙ ap (λ requests. requests ++ h.0) requests_are)) dealt.asked
+  -- the requests of the turns were taken
+  takes_so : (r : Result (Unit {0}) DeskFault) → IsServed s r turns logged
+      → Takes reach.Open old.coming new.reach new.coming (requests_of turns)
+  takes_so (Ok done) is = taken (log_of s turns) is (asked_log s turns)
+  takes_so (Err desk.Input) is = taken (log_of s turns) is (asked_log s turns)
+  takes_so (Err desk.Output) (inl (none, is)) = taken [] is (sym (ap requests_of none))
+  takes_so (Err desk.Output) (inr (done, last, parts, is)) =
+      taken (log_of s done ++ Asked last.request ∷ []) is
+      (asked_in-append (log_of s done) (Asked last.request ∷ [])
+      ∙ ap (λ requests. requests ++ last.request ∷ []) (asked_log s done)
+      ∙ sym (map-append (λ (t : Turn). t.request) done (last ∷ []))
+      ∙ sym (ap requests_of parts))
 
-  -- how the session ended
-  pub ends_so : (r : Result (Unit {0}) DeskFault) → IsServed s r turns [] d.log
-      → OnOk r (IsAtEnd d ⊎ (length turns ≡ 2 ^ 64 - 1)) → (r ≡ Err desk.Input → IsCutOff d)
-      → (r ≡ Err desk.Output → d.output.failed ≡ true) → (failed : Bool) → d.output.failed ≡ failed
-      → Ends (ending_of failed r) (around file d.given turns failed)
-  ends_so r served done cut unwritten true is = refl
-  ends_so (Ok done) served (inl end) cut unwritten false is =
-      inl (if_some_map d.given _ (λ bytes. requests_of turns ≡ requests_in bytes)
-      (λ bytes h. sym (requests_are (Ok done) served) ∙ h) end.given)
-  ends_so (Ok done) served (inr last) cut unwritten false is = inr last
-  ends_so (Err desk.Input) served done cut unwritten false is =
-      (d.received, dealt.front, sym (requests_are (Err desk.Input) served) ∙ (cut refl).read)
-  ends_so (Err desk.Output) served done cut unwritten false is = let failed = unwritten refl in cc
+  module _ (file : List ℕ → Option File) (r : Result (Unit {0}) DeskFault) (served : IsServed s r turns logged)
+      (done : OnOk r ((new.reach ≡ reach.Ended) ⊎ (length turns ≡ 2 ^ 64 - 1))) (cut : r ≡ Err desk.Input → new.reach ≡ reach.CutOff)
+      (unwritten : r ≡ Err desk.Output → new.output.failed ≡ true) where
+    -- how the session ended
+    ends_so : (q : Result (Unit {0}) DeskFault) → r ≡ q → (failed : Bool) → new.output.failed ≡ failed
+        → Ends (ending_of failed q) (around file old.coming turns failed)
+    ends_so q is_q true is = refl
+    ends_so (Ok u) is_q false is =
+        elim (rw is_q at done) [
+          | inl end ↦ inl (all_requests old.coming new.coming (requests_of turns) (rw end at takes_so r served))
+          | inr last ↦ inr last
+        ]
+    ends_so (Err desk.Input) is_q false is =
+        cut_off_requests old.coming new.coming (requests_of turns) (rw (cut is_q) at takes_so r served)
+    ends_so (Err desk.Output) is_q false is = let failed = unwritten is_q in cc
 
-  pub conversed : (r : Result (Unit {0}) DeskFault) → IsServed s r turns [] d.log → All HasFileAsked turns
-      → All (IsFromSource file) (files_of turns)
-      → OnOk r (IsAtEnd d ⊎ (length turns ≡ 2 ^ 64 - 1)) → (r ≡ Err desk.Input → IsCutOff d)
-      → (r ≡ Err desk.Output → d.output.failed ≡ true)
-      → IsConversation (around file d.given turns d.output.failed) (ending_of d.output.failed r)
-  conversed r served asked files done cut unwritten = record {
-    first = first r served;
-    asked = asked;
-    files = files;
-    ends = ends_so r served done cut unwritten d.output.failed refl;
-  }
+    pub conversed : All HasFileAsked turns → All (IsFromSource file) (files_of turns)
+        → IsConversation (around file old.coming turns new.output.failed) (ending_of new.output.failed r)
+    conversed asked files = record {
+      first = first_requests old.coming new.reach new.coming (requests_of turns) (takes_so r served);
+      asked = asked;
+      files = files;
+      ends = ends_so r refl new.output.failed refl;
+    }
 
-  -- what was written to the output
-  said : (r : Result (Unit {0}) DeskFault) → IsServed s r turns [] d.log → (r ≡ Err desk.Output → d.output.failed ≡ true)
-      → (failed : Bool) → d.output.failed ≡ failed
-      → Says d.began d.output (ended_answer (ending_of failed r) (texts_from s turns)).out
-  said r served unwritten true is = says_failed d.began d.output _ is
-  said (Ok done) served unwritten false is =
-      subst (λ bytes. Says d.began d.output bytes) (ap told_in served ∙ told_log s turns) dealt.told
-  said (Err desk.Input) served unwritten false is =
-      subst (λ bytes. Says d.began d.output bytes) (ap told_in served ∙ told_log s turns) dealt.told
-  said (Err desk.Output) served unwritten false is = let failed = unwritten refl in cc
+    -- what was written to the output
+    said : (q : Result (Unit {0}) DeskFault) → r ≡ q → IsServed s q turns logged → (failed : Bool) → new.output.failed ≡ failed
+        → Says old.output new.output (ended_answer (ending_of failed q) (texts_from s turns)).out
+    said q is_q is_served true is = says_failed old.output new.output _ is
+    said (Ok u) is_q logs false is =
+        subst (λ bytes. Says old.output new.output bytes) (told_log s turns) (deals (log_of s turns) logs).says
+    said (Err desk.Input) is_q logs false is =
+        subst (λ bytes. Says old.output new.output bytes) (told_log s turns) (deals (log_of s turns) logs).says
+    said (Err desk.Output) is_q logs false is = let failed = unwritten is_q in cc
 
-  -- the status and the line of an end do not depend on the texts
-  same_status : (r : Result (Unit {0}) DeskFault) (failed : Bool)
-      → (told failed (ended_answer (ending_of failed r) [])).status
-      ≡ (told failed (ended_answer (ending_of failed r) (texts_from s turns))).status
-  same_status r true = refl
-  same_status (Ok done) false = refl
-  same_status (Err fault) false = refl
+    -- the status and the line of an end do not depend on the texts
+    same_status : (q : Result (Unit {0}) DeskFault) (failed : Bool)
+        → (told failed (ended_answer (ending_of failed q) [])).status
+        ≡ (told failed (ended_answer (ending_of failed q) (texts_from s turns))).status
+    same_status q true = refl
+    same_status (Ok u) false = refl
+    same_status (Err fault) false = refl
 
-  same_line : (r : Result (Unit {0}) DeskFault) (failed : Bool)
-      → (told failed (ended_answer (ending_of failed r) [])).err
-      ≡ (told failed (ended_answer (ending_of failed r) (texts_from s turns))).err
-  same_line r true = refl
-  same_line (Ok done) false = refl
-  same_line (Err fault) false = refl
+    same_line : (q : Result (Unit {0}) DeskFault) (failed : Bool)
+        → (told failed (ended_answer (ending_of failed q) [])).err
+        ≡ (told failed (ended_answer (ending_of failed q) (texts_from s turns))).err
+    same_line q true = refl
+    same_line (Ok u) false = refl
+    same_line (Err fault) false = refl
 
-  cause : (r : Result (Unit {0}) DeskFault) (failed : Bool) → failed ≡ true
-      → (ended_answer (ending_of failed r) (texts_from s turns)).err ≡ []
-  cause r true is = refl
-  cause r false is = cc
+    cause : (q : Result (Unit {0}) DeskFault) (failed : Bool) → failed ≡ true
+        → (ended_answer (ending_of failed q) (texts_from s turns)).err ≡ []
+    cause q true is = refl
+    cause q false is = cc
 
-  pub ended_tells : (r : Result (Unit {0}) DeskFault) → IsServed s r turns [] d.log
-      → (r ≡ Err desk.Output → d.output.failed ≡ true) → (given : ℕ) (old_err new_err : Stream)
-      → given ≡ (told d.output.failed (ended_answer (ending_of d.output.failed r) [])).status
-      → Says old_err new_err (told d.output.failed (ended_answer (ending_of d.output.failed r) [])).err
-      → Tells (ended_answer (ending_of d.output.failed r) (texts_from s turns)) given d.began d.output old_err new_err
-  ended_tells r served unwritten given old_err new_err status line = record {
-    status = status ∙ same_status r d.output.failed;
-    out = said r served unwritten d.output.failed refl;
-    err = subst (λ bytes. Says old_err new_err bytes) (same_line r d.output.failed) line;
-    cause = cause r d.output.failed;
-  }
+    pub ended_tells : (given : ℕ) (old_err new_err : Stream)
+        → given ≡ (told new.output.failed (ended_answer (ending_of new.output.failed r) [])).status
+        → Says old_err new_err (told new.output.failed (ended_answer (ending_of new.output.failed r) [])).err
+        → Tells (ended_answer (ending_of new.output.failed r) (texts_from s turns)) given old.output new.output old_err new_err
+    ended_tells given old_err new_err status line = record {
+      status = status ∙ same_status r new.output.failed;
+      out = said r refl served new.output.failed refl;
+      err = subst (λ bytes. Says old_err new_err bytes) (same_line r new.output.failed) line;
+      cause = cause r new.output.failed;
+    }
 
 -- a session that was served has written its answers and its line, and returned its status
 pub serves_session : {S : Type 0} (file : List ℕ → Option File) (reads : S → List ℕ → Bool → S → Type 0) (before after : S) (s : State)
-    (r : Result (Unit {0}) DeskFault) (d : Dealings) (input : Option (List ℕ)) (given : ℕ) (old_out new_out old_err new_err : Stream)
-    → ((turns : List Turn) × AreFromSource file reads before turns after × IsServed s r turns [] d.log
-    × OnOk r (IsAtEnd d ⊎ (length turns ≡ 2 ^ 64 - 1)))
-    → (r ≡ Err desk.Input → IsCutOff d) → (r ≡ Err desk.Output → d.output.failed ≡ true) → IsDealt d
-    → d.given ≡ input → d.began ≡ old_out → d.output ≡ new_out
-    → given ≡ (told d.output.failed (ended_answer (ending_of d.output.failed r) [])).status
-    → Says old_err new_err (told d.output.failed (ended_answer (ending_of d.output.failed r) [])).err
+    (r : Result (Unit {0}) DeskFault) (old new : Dealing) (logged : List Event → Type 0) (given : ℕ) (new_out old_err new_err : Stream)
+    → ((events : List Event) → logged events → Deals old events new) → old.reach ≡ reach.Open
+    → ((turns : List Turn) × AreFromSource file reads before turns after × IsServed s r turns logged
+    × OnOk r ((new.reach ≡ reach.Ended) ⊎ (length turns ≡ 2 ^ 64 - 1)))
+    → (r ≡ Err desk.Input → new.reach ≡ reach.CutOff) → (r ≡ Err desk.Output → new.output.failed ≡ true) → new.output ≡ new_out
+    → given ≡ (told new.output.failed (ended_answer (ending_of new.output.failed r) [])).status
+    → Says old_err new_err (told new.output.failed (ended_answer (ending_of new.output.failed r) [])).err
     → (turns : List Turn) × AreFromSource file reads before turns after
-    × TellsSession file input s turns given old_out new_out old_err new_err
-serves_session file reads before after s r d input given old_out new_out old_err new_err (turns, source, served, done) cut unwritten dealt
-    same_input same_old same_new status line = (
+    × TellsSession file old.coming s turns given old.output new_out old_err new_err
+serves_session file reads before after s r old new logged given new_out old_err new_err deals begun (turns, source, served, done) cut
+    unwritten same_new status line = (
       turns,
       source,
-      rw (← same_input, ← same_old, ← same_new) (record {
-        ending = ending_of d.output.failed r;
-        is = conversed file s turns d dealt r served source.asked source.files done cut unwritten;
-        told = ended_tells file s turns d dealt r served unwritten given old_err new_err status line;
+      rw (← same_new) (record {
+        ending = ending_of new.output.failed r;
+        is = conversed s old new logged deals begun turns file r served done cut unwritten source.asked source.files;
+        told = ended_tells s old new logged deals begun turns file r served done cut unwritten given old_err new_err status line;
       }),
     )
 

@@ -2,7 +2,6 @@
 pub mod Memory
 pub mod NextWords
 pub mod OnLiterals
-pub mod Reading
 pub mod Refusals
 pub mod Rows
 pub mod Sessions

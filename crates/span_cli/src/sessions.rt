@@ -1,5 +1,6 @@
 //! Serves sessions over an input and an output.
-ghost use Rattle.desks.specs.near.Intakes.{IsFresh};
+ghost use Rattle.desks.specs.Takings.{coming};
+ghost use Rattle.desks.specs.declared.intake.Reach.TheVariants as reach;
 ghost use Rattle.session.specs.Conversations.{AreFromSource, Turn, opening_text};
 ghost use Rattle.span_cli.specs.Serving.{ended_answer};
 ghost use Rattle.span_cli.specs.Telling.{told};
@@ -61,9 +62,10 @@ pub(crate) fn serve_session<
     err: &mut MarkedWriter<E>,
 ) -> u8
     requires text { opened.text.items ≡ opening_text opened.session }
-    requires fresh { IsFresh requests }
+    requires fresh { requests.reach ≡ reach.Open }
     ensures { (turns : List Turn) × AreFromSource (S.file sources.old) S.reads sources.old turns sources.new
-        × TellsSession (S.file sources.old) requests.reading.given opened.session turns result out.old out.new err.old err.new }
+        × TellsSession (S.file sources.old) (coming requests.block requests.reader) opened.session turns result
+        out.old out.new err.old err.new }
 {
     let mut desk = StreamDesk::new(requests, out);
     let served = run(&mut desk, sources, workers, &mut opened);

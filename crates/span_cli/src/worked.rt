@@ -5,7 +5,6 @@ ghost use Rattle.clap.specs.declared.error.kind.ErrorKind.TheVariants as kind;
 ghost use Rattle.span_cli.specs.Serving.{Check, Explain, Faults, IsAnswer, Margin, Plan, Roll, Session, WhatIf, done, refused};
 ghost use Rattle.span_cli.specs.Sessions.{files_alone};
 ghost use Rattle.span_cli.specs.Words.{asked_in, is_request, joined_words, kinds_of};
-ghost use Rattle.span_cli.specs.declared.reading.TheConstants.{MAX_TURNS};
 ghost use Rattle.sources.specs.declared.ReadFault.TheVariants as read;
 ghost use Rattle.sources.specs.declared.TheConstants.{FILE_CAP};
 ghost use Rattle.std.specs.Prelude.{◌≡◌, ◌∷◌, Err, None, Ok, Some, [], bytes_eq, codes, if◌then◌else◌, true};
@@ -291,8 +290,7 @@ fn plans()
         (refused 3 (codes "parameters: P1 NoSet at record 0\n")) }
 {}
 
-// The limit of a file in bytes, and the number of turns for reading it.
+// The limit of a file in bytes.
 fn limits()
-    ensures bytes { FILE_CAP ≡ 67108864 }
-    ensures turns { MAX_TURNS ≡ 67108865 }
+    ensures { FILE_CAP ≡ 67108864 }
 {}

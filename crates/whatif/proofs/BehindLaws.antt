@@ -1,7 +1,7 @@
 -- The records of an order appended to the position records: they are accepted, and the order's account is among their
 -- portfolios.
 use Rattle.std.proofs.Common.{◌≡◌, ◌∙◌, ℕ, zero, suc, ◌≤◌, Bool, true, false, cond, ◌&&◌, ◌||◌, List, [], ◌∷◌, ◌++◌}
-use Rattle.std.proofs.Common.{filter, get_or, length, map, Option, Some, None, Ok, Err, Result, refl, sym, ap, subst, arith}
+use Rattle.std.proofs.Common.{filter, get_or, length, map, Option, Some, None, Ok, refl, sym, ap, subst, arith}
 use Rattle.std.specs.Prelude.{All, bytes_eq, find, nat_abs, nat_lt, option_map, pos, slice_get, unwrap_or}
 use Rattle.std.specs.List.{enumerate_from, list_any}
 use Rattle.std.proofs.lemmas.Bool.{false_from_ne_true, false≢true, le-ltb, not-false, or_from, or_right, true≢false}
@@ -9,87 +9,45 @@ use Rattle.std.proofs.lemmas.Int.{ints}
 use Rattle.std.proofs.lemmas.List.{map-append}
 use Rattle.std.proofs.lemmas.List.Elements.{All-append, All-filter, All-map, All-weaker, filter_passes}
 use Rattle.std.proofs.lemmas.List.Folds.{list_any-append, list_any_at, list_any_none}
-use Rattle.span_csv.specs.ParamFaults.{params_of}
-use Rattle.span_csv.specs.declared.faults.ParamFault.{ParamFault}
 use Rattle.span_money.specs.Numbers.{int_sum_by}
 use Rattle.span_tables.specs.Faults.{ok_unless}
 use Rattle.span_tables.specs.Holdings.{ArePortfolio}
 use Rattle.span_tables.specs.Names.{has_repeat, is_among}
 use Rattle.span_tables.specs.Net.{AccountHoldings, accounts_of, holdings_of, is_held, net_of, portfolios_of}
 use Rattle.span_tables.specs.Orders.{account_of_order, as_position, net_among, orders_in, positions_of_order}
-use Rattle.span_tables.specs.Rules.{keeps_rules}
 use Rattle.span_tables.specs.Tables.{AcceptedTables, tables_of}
 use Rattle.span_tables.specs.declared.limits.TheConstants.{MAX_HELD, MAX_NET}
 use Rattle.span_tables.specs.declared.portfolios.Holding.{Holding}
 use Rattle.span_tables.specs.declared.records.Contract.{Contract}
 use Rattle.span_tables.specs.declared.records.OrderRecord.{OrderRecord}
 use Rattle.span_tables.specs.declared.records.PositionRecord.{PositionRecord}
-use Rattle.span_tables.specs.declared.records.Record.{Record}
 use Rattle.span_tables.proofs.MergedLaws.{net_among_all, net_of-append}
 use Rattle.span_tables.proofs.NameLemmas.{is_among-distinct, same_name}
 use Rattle.span_tables.proofs.WithinLimits.{kept}
 use Rattle.binding.specs.Binding.{bind_fault, bindings_of, exceeds_held, exceeds_net, is_unknown}
-use Rattle.param_check.specs.CheckFaults.{check_fault, checked}
 use Rattle.binding.specs.OrderBinding.{TriedOrders, holdings_after, is_of_unknown, order_bind_fault, orders_bound, tried_order}
-use Rattle.binding.specs.declared.faults.BindFault.{BindFault}
-use Rattle.param_check.specs.declared.faults.CheckFault.{CheckFault}
 use Rattle.binding.specs.declared.faults.OrderBindFault.{OrderBindFault}
-use Rattle.binding.proofs.AcceptedLaws.{few_held, fit_of_none, nets_within, none_of_fit}
+use Rattle.binding.proofs.AcceptedLaws.{fit_of_none, nets_within, none_of_fit}
 use Rattle.binding.proofs.AccountLaws.{bytes_eq-flip, bytes_eq-refl}
 use Rattle.binding.proofs.OrderBindLaws.{accepted_known}
 use Rattle.binding.proofs.OrderLaws.{among_within}
-use Rattle.binding.proofs.PortfolioLaws.{portfolio_holds}
 use Rattle.param_check.proofs.RuleLaws.{rules_kept}
 use Rattle.binding.proofs.TriedLaws.{accepted_holds, after_by_positions}
-use Rattle.statement_text.specs.Statement.{accepted_of, and_then, portfolios_under}
-use Rattle.statement_text.specs.declared.faults.SpanFault.TheVariants as fault
+use Rattle.statement_text.specs.Statement.{accepted_of, portfolios_under}
 use Rattle.whatif.proofs.AccountLaws.{same_nets}
+use Rattle.acceptance.proofs.FitLemmas.{portfolios_hold}
+use Rattle.statement_text.proofs.AcceptedFiles.{accepted_are, bound_are}
 
 -- ---- what outcomes without a fault imply
-
--- no two contracts have the same id in tables whose records keep the rules
-tables_apart : (records : List Record) → keeps_rules records ≡ true
-    → has_repeat (λ x y. bytes_eq x.id y.id) (tables_of records).contracts ≡ false
-unfolding tables_of
-tables_apart records keeps = (kept records keeps).contracts_apart
-
--- no two contracts have the same id in the tables of checked records
-checked_apart : (records : List Record) (t : AcceptedTables)
-    → and_then fault.Check (checked records) (λ tables. Ok tables) ≡ Ok t
-    → has_repeat (λ x y. bytes_eq x.id y.id) t.contracts ≡ false
-unfolding checked
-checked_apart records t e = by (check_fault records) refl e where
-  by : (o : Option CheckFault) → check_fault records ≡ o
-      → and_then fault.Check (ok_unless o (tables_of records)) (λ tables. Ok tables) ≡ Ok t
-      → has_repeat (λ x y. bytes_eq x.id y.id) t.contracts ≡ false
-  by (Some f) is e = cc
-  by None is e =
-      let same : tables_of records ≡ t = cc in
-      subst (λ (tables : AcceptedTables). has_repeat (λ x y. bytes_eq x.id y.id) tables.contracts ≡ false) same
-      (tables_apart records (rules_kept records is))
 
 -- no two contracts have the same id in accepted tables
 ids_apart : (params : List ℕ) (t : AcceptedTables) → accepted_of params ≡ Ok t
     → has_repeat (λ x y. bytes_eq x.id y.id) t.contracts ≡ false
-unfolding accepted_of
-ids_apart params t e = by (params_of params) e where
-  by : (r : Result (List Record) ParamFault)
-      → and_then fault.Params r (λ records. and_then fault.Check (checked records) (λ tables. Ok tables)) ≡ Ok t
-      → has_repeat (λ x y. bytes_eq x.id y.id) t.contracts ≡ false
-  by (Err f) e = cc
-  by (Ok records) e = checked_apart records t e
-
--- positions that have portfolios have no fault, and their portfolios are these
-bound_are : (t : AcceptedTables) (positions : List PositionRecord) (portfolios : List AccountHoldings)
-    → portfolios_under t positions ≡ Ok portfolios
-    → (bind_fault t.contracts positions ≡ None) × (portfolios_of t.contracts positions ≡ portfolios)
-unfolding portfolios_under bindings_of
-bound_are t positions portfolios e = by (bind_fault t.contracts positions) refl e where
-  by : (o : Option BindFault) → bind_fault t.contracts positions ≡ o
-      → and_then fault.Bind (ok_unless o (portfolios_of t.contracts positions)) (λ found. Ok found) ≡ Ok portfolios
-      → (bind_fault t.contracts positions ≡ None) × (portfolios_of t.contracts positions ≡ portfolios)
-  by (Some f) is e = cc
-  by None is e = (is, cc)
+unfolding tables_of
+ids_apart params t e =
+    let are = accepted_are params t e in
+    subst (λ (tables : AcceptedTables). has_repeat (λ x y. bytes_eq x.id y.id) tables.contracts ≡ false) are.3
+    (kept are.0 (rules_kept are.0 are.2)).contracts_apart
 
 -- positions without a fault have portfolios
 are_bound : (t : AcceptedTables) (positions : List PositionRecord) → bind_fault t.contracts positions ≡ None
@@ -107,20 +65,6 @@ orders_fit contracts portfolios records tried e = by (order_bind_fault contracts
       ≡ Ok tried → o ≡ None
   by (Some f) e = cc
   by None e = refl
-
--- the holdings of each account are a portfolio if the positions have no fault
-portfolios_hold : (contracts : List Contract) (positions : List PositionRecord) → bind_fault contracts positions ≡ None
-    → All (λ p. ArePortfolio p.holdings) (portfolios_of contracts positions)
-unfolding portfolios_of
-portfolios_hold contracts positions none =
-    let names = map (λ (p : PositionRecord). p.account) positions in
-    All-map (λ (p : AccountHoldings). ArePortfolio p.holdings)
-    (λ name. record { account = name; holdings = holdings_of contracts positions name }) (accounts_of positions) (λ k d lt.
-    let name = get_or (accounts_of positions) k d in
-    let among : is_among names name ≡ true =
-    sym (is_among-distinct names name) ∙ list_any_at (bytes_eq name) (accounts_of positions) k d lt (bytes_eq-refl name) in
-    portfolio_holds contracts positions name (fit_of_none contracts positions none).within
-    (few_held contracts positions none name among))
 
 -- if no element passes a test, each element fails it
 none_of_any : {X : Type 0} (test : X → Bool) (xs : List X) → list_any test xs ≡ false → All (λ x. test x ≡ false) xs

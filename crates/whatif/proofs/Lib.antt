@@ -6,5 +6,4 @@ pub mod ChangeLaws
 pub mod FileLemmas
 pub mod OrderLineLemmas
 pub mod NothingLaws
-pub mod SlotLemmas
 pub mod TextLemmas

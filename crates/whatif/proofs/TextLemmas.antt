@@ -70,3 +70,11 @@ AllZip-last R [] [] x y all last = (last, tt)
 AllZip-last R [] (z ∷ ys) x y all last = absurd all
 AllZip-last R (z ∷ xs) [] x y all last = absurd all
 AllZip-last R (z ∷ xs) (w ∷ ys) x y all last = (all.0, AllZip-last R xs ys x y all.1 last)
+
+-- two lists after two others whose elements are related
+pub AllZip-append : {A B : Type 0} (R : A → B → Type 0) (xs ys : List A) (us vs : List B) → AllZip R xs us → AllZip R ys vs
+    → AllZip R (xs ++ ys) (us ++ vs)
+AllZip-append R [] ys [] vs first rest = rest
+AllZip-append R [] ys (u ∷ us) vs first rest = absurd first
+AllZip-append R (x ∷ xs) ys [] vs first rest = absurd first
+AllZip-append R (x ∷ xs) ys (u ∷ us) vs first rest = (first.0, AllZip-append R xs ys us vs first.1 rest)

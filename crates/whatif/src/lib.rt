@@ -8,6 +8,5 @@ pub mod laws;
 pub mod lines;
 mod margining;
 pub mod numbers;
-pub mod portfolios;
 pub mod trying;
 mod worked;

@@ -3,9 +3,8 @@
 #![tactic(auto, unfolding(crate::specs::near::OnLiterals::on_literals))]
 
 ghost use Rattle.binding.specs.declared.faults.OrderBindFault.TheVariants as bind;
-ghost use Rattle.span_csv.specs.declared.faults.OrderFault.TheVariants as reading;
 ghost use Rattle.statement_text.specs.declared.faults.SpanFault.TheVariants as fault;
-ghost use Rattle.statement_text.specs.near.Samples.{ca, fa, one_future, two_commodities};
+ghost use Rattle.statement_text.specs.near.Samples.{ca, one_future};
 ghost use Rattle.std.specs.Prelude.{◌++◌, ◌≡◌, Err, Ok, [], codes};
 ghost use Rattle.whatif.specs.Whatif.{tried_of, whatif_of};
 
@@ -18,30 +17,11 @@ fn three_orders()
         ++ codes "CHANGE,NEW,Y,D1,AA,0,1200,1200\nORDER,NEW,Y,D1,0,1200,1200\n") }
 {}
 
-// An order whose quantities add up to 0 has only its last line.
-fn order_of_nothing()
-    ensures { tried_of one_future (codes "X,FA,1\n") (codes "O,X,FA,2\n" ++ codes "O,X,FA,-2\n")
-        ≡ Ok (codes "ORDER,O,X,D1,1200,1200,0\n") }
-{}
-
-// Without orders the text is empty, on one worker and on two.
-fn no_orders()
-    ensures one { whatif_of 1 one_future (codes "X,FA,1\n") [] ≡ Ok [] }
-    ensures two { whatif_of 2 one_future (codes "X,FA,1\n") [] ≡ Ok [] }
-    ensures none { whatif_of 0 one_future (codes "X,FA,1\n") [] ≡ Err fault.Workers }
-{}
-
-// A record with three fields, and a record in a contract that the parameter set does not have.
+// A number of workers that is not accepted, and a record in a contract that the parameter set does not have.
 fn refused_orders()
-    ensures reading { tried_of one_future (codes "X,FA,1\n") (codes "O,X,FA\n") ≡ Err (fault.Orders (reading.FieldCount 1)) }
-    ensures binding { tried_of one_future (codes "X,FA,1\n") (codes "O,X,FB,1\n")
+    ensures workers { whatif_of 0 one_future (codes "X,FA,1\n") [] ≡ Err fault.Workers }
+    ensures binding { whatif_of 1 one_future (codes "X,FA,1\n") (codes "O,X,FB,1\n")
         ≡ Err (fault.BindOrders (bind.UnknownContract 1 (codes "O"))) }
-{}
-
-// An order in one commodity earns a credit in both, so each of them has a CHANGE line.
-fn credit_between_commodities()
-    ensures { tried_of (two_commodities fa (codes "5000,AA,A,1,BB,B,1")) (codes "X,FA,1\n") (codes "HEDGE,X,FB,-1\n")
-        ≡ Ok (codes "CHANGE,HEDGE,X,D1,AA,1200,600,-600\nCHANGE,HEDGE,X,D1,BB,0,450,450\nORDER,HEDGE,X,D1,1200,1050,-150\n") }
 {}
 
 // One of two short calls worth 120 each is bought back. The amount owed for them is added to the requirement, before

@@ -1,6 +1,7 @@
 -- How a block of bytes is cut into lines.
 use Rattle.std.specs.Prelude.{◌≡◌, ℕ, List, [], ◌∷◌, ◌++◌, Bool, MatchBool}
-use Rattle.desks.specs.near.Keeping.{HasNoFeed, Kept, added}
+use Rattle.desks.specs.Requests.{Kept}
+use Rattle.desks.specs.near.Keeping.{HasNoFeed, added}
 
 -- the bytes up to the first line feed are added to the line, and the line feed is dropped
 pub record CutsLine (old new : List ℕ) (old_line new_line : Kept) : Type 0 where

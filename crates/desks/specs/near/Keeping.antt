@@ -1,12 +1,7 @@
 -- The bytes that are kept of a line.
-use Rattle.std.specs.Prelude.{◌≡◌, ℕ, ◌+◌, Bool, ◌||◌, false, List, [], ◌∷◌, ◌++◌, Option, None, All, length, nat_lt, take, if◌then◌else◌}
-use Rattle.desks.specs.Requests.{is_feed, request_of_line}
+use Rattle.std.specs.Prelude.{◌≡◌, ℕ, ◌+◌, ◌||◌, false, List, [], ◌∷◌, ◌++◌, Option, None, All, length, nat_lt, take, if◌then◌else◌}
+use Rattle.desks.specs.Requests.{Kept, is_feed, request_of_line}
 use Rattle.desks.specs.declared.kept_lines.TheConstants.{KEPT}
-
--- the first bytes of a line, and whether it has more
-pub record Kept : Type 0 where
-  pub bytes : List ℕ
-  pub more : Bool
 
 -- what is kept of a line
 abbrev pub kept_of : List ℕ → Kept

@@ -1,6 +1,5 @@
 -- Requests that test vectors share.
-use Rattle.std.specs.Prelude.{ℕ, false, true, List, ◌++◌, codes, None, Option, Some, Ok, Result, replicate}
-use Rattle.std.specs.List.{flat_map}
+use Rattle.std.specs.Prelude.{ℕ, false, true, List, ◌++◌, codes, None, Option, Some, Ok, Result}
 use Rattle.session.specs.Answers.{answer_to, opened}
 use Rattle.session.specs.Conversations.{Turn, answer_text, state_after}
 use Rattle.session.specs.Requests.{Margin, Set}
@@ -20,10 +19,6 @@ asking_in_vain text = record { request = Some text; file = None; is_out_of_memor
 -- a request that is too long
 abbrev pub too_long : Turn
 too_long = record { request = None; file = None; is_out_of_memory = false }
-
--- a FILL with this many pairs of contract and quantity
-abbrev pub fill_of : ℕ → List ℕ
-fill_of pairs = codes "FILL,X" ++ flat_map (λ pair. pair) (replicate pairs (codes ",A,1"))
 
 -- a parameter set with two futures, and positions in which X is long one and Y is short the other
 abbrev pub two_futures : List ℕ

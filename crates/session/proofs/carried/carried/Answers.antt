@@ -1,109 +1,69 @@
-use Rattle.std.proofs.Common.{rules, ◌≡◌, ◌∙◌, ◌<◌, [], ap, bytes_eq, false, length, subst, sym}
-use Rattle.std.specs.Prelude.{MatchBool, ⊤}
-use Rattle.std.specs.Prelude.{Some}
-use Rattle.std.proofs.lemmas.List.{length-map}
-use Rattle.span_tables.specs.Names.{has_repeat}
-use Rattle.span_tables.specs.Tables.{AcceptedTables}
-use Rattle.binding.specs.OrderBinding.{is_memory, order_bind_fault, tried_order}
-use Rattle.session.specs.Answers.{trade_records}
-use Rattle.session.specs.Requests.{AreTradable}
-use Rattle.session.specs.near.Carried.{IsLoss, held_trade, held_trades, loss}
-use Rattle.session.proofs.LossLemmas.{carried_none, carried_some, loss_some, lost_some, none_lost_some, trades_tradable}
+use Rattle.std.proofs.Common.{rules, ◌≡◌, ◌∙◌, ◌∷◌, [], ◌++◌, None, get_or, refl, subst, sym}
+use Rattle.std.specs.Prelude.{pos}
+use Rattle.span_tables.specs.Holdings.{ArePortfolio}
+use Rattle.span_tables.specs.Net.{AccountHoldings}
+use Rattle.span_tables.specs.declared.portfolios.Holding.{Holding}
+use Rattle.span_tables.proofs.HeldLemmas.{all_known}
+use Rattle.span_tables.proofs.StableSort.{sorted_by_closure}
+use Rattle.session.proofs.CarriedLemmas.{carried_holds}
+use Rattle.session.proofs.CarryLemmas.{all_moved, if_lost, next_moved, number_read}
 use Rattle.session.proofs.carried.carried.Goals as goal
 
-pub returns-then-is_empty-clause-carried : goal.returns-then-is_empty-clause-carried
-returns-then-is_empty-clause-carried c =
-    let none : length c.args.portfolio.now.holdings ≡ 0 = search rules in
-    c.in_ok-copied.ensures
-    ∙ carried_none c.args.old.now.contracts c.args.set.now.tables.contracts c.args.portfolio.now.account c.args.portfolio.now.holdings none
-
-pub after-requires : goal.after-requires
-after-requires c =
+pub returns-in_default-clause-lost : goal.returns-in_default-clause-lost
+returns-in_default-clause-lost c =
     let old = c.args.old.now.contracts in
-    let new = c.args.set.now.tables.contracts in
-    let hs = c.args.portfolio.now.holdings in
-    let account = c.args.portfolio.now.account in
-    let some : 0 < length hs = search rules in
-    let trades : c.deref.result.now ≡ held_trades old hs =
-    c.deref.ensures.value ∙ c.in_ok-trades.ensures ∙ ap (λ contracts. held_trades contracts hs) c.contracts.ensures.value in
-    subst AreTradable (sym trades) (trades_tradable old hs some c.holdings.ensures.kept.nets)
+    let new = c.args.new.now.contracts in
+    let p = c.args.portfolio.now in
+    let i = c.loop-holding.holding-index in
+    let d : Holding = record { contract = 0; net = pos 0 } in
+    let items = c.holdings-holding-items.ensures.value in
+    let lt = rw items at c.loop-holding-test.true in
+    let none = rw (items, c.requires.numbers) at c.in_default.not-Some in
+    let read = number_read old new (get_or p.holdings i d) None (all_known _ _ c.requires.fits i d lt) in
+    if_lost old new p i d _ lt c.loop-holding.invariant (λ n is. none n (read ∙ is)) c.lost.result
+    (c.lost.ensures ∙ rw items refl)
 
-pub returns-in-Ok-clause-carried : goal.returns-in-Ok-clause-carried
-returns-in-Ok-clause-carried c =
+pub loop-holding-preserved : goal.loop-holding-preserved
+loop-holding-preserved c =
     let old = c.args.old.now.contracts in
-    let new = c.args.set.now.tables.contracts in
-    let hs = c.args.portfolio.now.holdings in
-    let account = c.args.portfolio.now.account in
-    let some : 0 < length hs = search rules in
-    let apart : has_repeat (λ x y. bytes_eq x.id y.id) new ≡ false =
-    subst (λ (t : AcceptedTables). has_repeat (λ x y. bytes_eq x.id y.id) t.contracts
-    ≡ false) c.tables.ensures c.known.ensures.contracts_apart in
-    let trades : c.deref.result.now ≡ held_trades old hs =
-    c.deref.ensures.value ∙ c.in_ok-trades.ensures ∙ ap (λ contracts. held_trades contracts hs) c.contracts.ensures.value in
-    let name : c.account.result.now ≡ account = c.account.ensures in
-    carried_some old new account c.contracts.ensures.limits.contracts_apart apart hs some c.in-Ok.after
-    (c.in-Ok.ensures.after ∙ (λ i. (tried_order new [] (trade_records (name i) (name i) (trades i)) (name i)).after))
+    let new = c.args.new.now.contracts in
+    let p = c.args.portfolio.now in
+    let i = c.loop-holding.holding-index in
+    let d : Holding = record { contract = 0; net = pos 0 } in
+    let items = c.holdings-holding-items.ensures.value in
+    let lt = rw items at c.loop-holding-test.true in
+    let is = rw (items, c.requires.numbers) at c.in-Some.is in
+    let read = number_read old new (get_or p.holdings i d) None (all_known _ _ c.requires.fits i d lt) in
+    let pushed : c.push.new.self.items ≡ c.loop-holding.moved.items ++ record {
+      contract = c.in-Some.contract;
+      net = (get_or c.holdings-holding-items.result.now i d).net;
+    } ∷ [] = search rules in
+    rw (pushed, items) (next_moved old new p i d _ lt c.loop-holding.invariant c.in-Some.contract (sym read ∙ is))
 
-pub returns-in-Ok-clause-known : goal.returns-in-Ok-clause-known
-returns-in-Ok-clause-known c =
+pub new-requires : goal.new-requires
+new-requires c =
     let old = c.args.old.now.contracts in
-    let new = c.args.set.now.tables.contracts in
-    let hs = c.args.portfolio.now.holdings in
-    let account = c.args.portfolio.now.account in
-    let some : 0 < length hs = search rules in
-    let apart : has_repeat (λ x y. bytes_eq x.id y.id) new ≡ false =
-    subst (λ (t : AcceptedTables). has_repeat (λ x y. bytes_eq x.id y.id) t.contracts
-    ≡ false) c.tables.ensures c.known.ensures.contracts_apart in
-    let trades : c.deref.result.now ≡ held_trades old hs =
-    c.deref.ensures.value ∙ c.in_ok-trades.ensures ∙ ap (λ contracts. held_trades contracts hs) c.contracts.ensures.value in
-    let name : c.account.result.now ≡ account = c.account.ensures in
-    let same : order_bind_fault new [] (trade_records c.account.result.now c.account.result.now c.deref.result.now)
-    ≡ order_bind_fault new [] (trade_records account account (held_trades old hs)) =
-    λ i. order_bind_fault new [] (trade_records (name i) (name i) (trades i)) in
-    none_lost_some old new account c.contracts.ensures.limits.contracts_apart apart hs some c.requires c.holdings.ensures.kept
-    (sym same ∙ c.in-Ok.ensures.fit)
+    let new = c.args.new.now.contracts in
+    let p = c.args.portfolio.now in
+    let apart = c.known.ensures.contracts_apart in
+    let new_apart = c.known-2.ensures.contracts_apart in
+    let all = rw c.holdings-holding-items.ensures.value at c.loop-holding-test.false in
+    let sorted = sorted_by_closure (λ (h : Holding). h.contract) c.loop-holding.moved.items c.sort_by_key.new.self.items
+    c.in_ok-sort_by_key.ensures.sorted c.in_ok-sort_by_key.ensures.stable (λ a r q k. search rules) in
+    subst ArePortfolio (sym (sorted ∙ all_moved old new apart new_apart p _ _ c.loop-holding.invariant all c.requires.fits
+    c.holdings.ensures.kept))
+    (carried_holds old new apart new_apart p.account p.holdings c.requires.fits c.holdings.ensures.kept)
 
-pub lost-requires : goal.lost-requires
-lost-requires c =
+pub returns-clause-carried : goal.returns-clause-carried
+returns-clause-carried c =
     let old = c.args.old.now.contracts in
-    let new = c.args.set.now.tables.contracts in
-    let hs = c.args.portfolio.now.holdings in
-    let account = c.args.portfolio.now.account in
-    let some : 0 < length hs = search rules in
-    let apart : has_repeat (λ x y. bytes_eq x.id y.id) new ≡ false =
-    subst (λ (t : AcceptedTables). has_repeat (λ x y. bytes_eq x.id y.id) t.contracts
-    ≡ false) c.tables.ensures c.known.ensures.contracts_apart in
-    let trades : c.deref.result.now ≡ held_trades old hs =
-    c.deref.ensures.value ∙ c.in_ok-trades.ensures ∙ ap (λ contracts. held_trades contracts hs) c.contracts.ensures.value in
-    let name : c.account.result.now ≡ account = c.account.ensures in
-    let held : c.deref-in-Err.result.now ≡ held_trades old hs =
-    c.deref-in-Err.ensures.value ∙ c.in_ok-trades.ensures ∙ ap (λ contracts. held_trades contracts hs) c.contracts.ensures.value in
-    let same : order_bind_fault new [] (trade_records c.account.result.now c.account.result.now c.deref.result.now)
-    ≡ order_bind_fault new [] (trade_records account account (held_trades old hs)) =
-    λ i. order_bind_fault new [] (trade_records (name i) (name i) (trades i)) in
-    let unfit = subst (λ found. MatchBool (is_memory c.in-Err.fault) ⊤ (found ≡ Some c.in-Err.fault)) same c.in-Err.ensures.unfit in
-    subst (λ n. IsLoss n c.in-Err.fault) (sym (ap length held ∙ length-map hs (held_trade old)))
-    (loss_some old new account c.contracts.ensures.limits.contracts_apart apart hs some c.requires c.holdings.ensures.kept
-    c.in-Err.fault unfit)
-
-pub returns-clause-lost : goal.returns-clause-lost
-returns-clause-lost c =
-    let old = c.args.old.now.contracts in
-    let new = c.args.set.now.tables.contracts in
-    let hs = c.args.portfolio.now.holdings in
-    let account = c.args.portfolio.now.account in
-    let some : 0 < length hs = search rules in
-    let apart : has_repeat (λ x y. bytes_eq x.id y.id) new ≡ false =
-    subst (λ (t : AcceptedTables). has_repeat (λ x y. bytes_eq x.id y.id) t.contracts
-    ≡ false) c.tables.ensures c.known.ensures.contracts_apart in
-    let trades : c.deref.result.now ≡ held_trades old hs =
-    c.deref.ensures.value ∙ c.in_ok-trades.ensures ∙ ap (λ contracts. held_trades contracts hs) c.contracts.ensures.value in
-    let name : c.account.result.now ≡ account = c.account.ensures in
-    let held : c.deref-in-Err.result.now ≡ held_trades old hs =
-    c.deref-in-Err.ensures.value ∙ c.in_ok-trades.ensures ∙ ap (λ contracts. held_trades contracts hs) c.contracts.ensures.value in
-    let same : order_bind_fault new [] (trade_records c.account.result.now c.account.result.now c.deref.result.now)
-    ≡ order_bind_fault new [] (trade_records account account (held_trades old hs)) =
-    λ i. order_bind_fault new [] (trade_records (name i) (name i) (trades i)) in
-    let unfit = subst (λ found. MatchBool (is_memory c.in-Err.fault) ⊤ (found ≡ Some c.in-Err.fault)) same c.in-Err.ensures.unfit in
-    lost_some old new account c.contracts.ensures.limits.contracts_apart apart hs some c.requires c.holdings.ensures.kept
-    c.in-Err.fault unfit c.lost.result (c.lost.ensures ∙ ap (λ ts. loss account ts c.in-Err.fault) held)
+    let new = c.args.new.now.contracts in
+    let p = c.args.portfolio.now in
+    let apart = c.known.ensures.contracts_apart in
+    let new_apart = c.known-2.ensures.contracts_apart in
+    let all = rw c.holdings-holding-items.ensures.value at c.loop-holding-test.false in
+    let sorted = sorted_by_closure (λ (h : Holding). h.contract) c.loop-holding.moved.items c.sort_by_key.new.self.items
+    c.in_ok-sort_by_key.ensures.sorted c.in_ok-sort_by_key.ensures.stable (λ a r q k. search rules) in
+    let name = c.copied.ensures ∙ c.account.ensures in
+    let held = sorted ∙ all_moved old new apart new_apart p _ _ c.loop-holding.invariant all c.requires.fits c.holdings.ensures.kept in
+    c.new.ensures ∙ (λ i. (let it : AccountHoldings = record { account = name i; holdings = held i } in it))

@@ -1,13 +1,24 @@
-use Rattle.std.proofs.Common.{◌≡◌, ◌∙◌, rules}
-use Rattle.desks.specs.near.Dealing.{dealings}
-use Rattle.span_cli.proofs.SessionLemmas.{serves_session}
+use Rattle.std.proofs.Common.{◌≡◌, ◌∙◌, [], List, ap, refl, rules}
+use Rattle.desks.specs.Desks.{Deals, DealsAt, dealing}
+use Rattle.desks.specs.Events.{Event, Logs}
+use Rattle.desks.specs.declared.intake.Requests.{Requests}
+use Rattle.desks.proofs.DealingLemmas.{nothing_dealt}
+use Rattle.span_cli.proofs.SessionLemmas.{serves_session, some_logged}
 use Rattle.span_cli.proofs.sessions.serve_session.Goals as goal
 
 pub returns : goal.returns
 returns g c =
-    let is_unwritten : c.failed-is_unwritten.result ≡ c.run-served.new.desk.output.now.failed = search rules in
-    serves_session (g.S.Sources.file c.args.sources.now) g.S.Sources.reads _ _ c.args.opened.session c.run-served.result
-    (dealings c.run-served.new.desk) _ c.tell_end.result _ _ _ _ (rw c.new-desk.ensures.log at c.run-served.ensures.served)
-    c.run-served.ensures.input c.run-served.ensures.output c.close-output.ensures.dealt
-    (c.run-served.ensures.desk.2 ∙ c.new-desk.ensures.given) (c.run-served.ensures.desk.1 ∙ c.new-desk.ensures.began) (search rules)
-    (rw is_unwritten at c.tell_end.ensures.status) (rw is_unwritten at c.tell_end.ensures.line)
+    let old = c.new-desk.result in
+    let new = c.run-served.new.desk in
+    let is_unwritten : c.failed-is_unwritten.result ≡ new.output.now.failed = search rules in
+    let logged : List Event → Type 0 = λ events. Logs DealsAt old events new in
+    let deals : (events : List Event) → logged events → DealsAt old events new =
+    λ events is. is old [] (refl, nothing_dealt (dealing old)) in
+    let served = c.run-served.ensures.served in
+    let some = some_logged c.args.opened.session c.run-served.result served.0 logged served.2 in
+    let name : new.output.ghost_name ≡ old.output.ghost_name = (deals some.0 some.1).0 in
+    let told = serves_session (g.S.Sources.file c.args.sources.now) g.S.Sources.reads _ _ c.args.opened.session c.run-served.result
+    (dealing old) (dealing new) logged c.tell_end.result _ _ _ (λ events is. (deals events is).1) (search (rules, c.requires.fresh)) served
+    (λ is. (c.run-served.ensures.input is).0) c.run-served.ensures.output (search (rules, name))
+    (rw is_unwritten at c.tell_end.ensures.status) (rw is_unwritten at c.tell_end.ensures.line) in
+    rw (← c.new-desk.ensures.requests, ← c.new-desk.ensures.output) told

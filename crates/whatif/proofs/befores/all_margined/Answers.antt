@@ -1,18 +1,15 @@
-use Rattle.std.proofs.Common.{subst, sym}
+use Rattle.std.proofs.Common.{rules}
 use Rattle.std.specs.Arc.{arc_value}
-use Rattle.std.specs.Prelude.{All}
-use Rattle.std.proofs.lemmas.List.Elements.{All-drop}
-use Rattle.worker_pool.specs.Batches.{FitsSet}
-use Rattle.whatif.proofs.BeforeLemmas.{more_margined}
+use Rattle.whatif.proofs.BeforeLemmas.{all_numbers, more_numbers}
 use Rattle.whatif.proofs.befores.all_margined.Goals as goal
 
 pub loop-left-preserved : goal.loop-left-preserved
 loop-left-preserved g c =
-    let set = arc_value c.args.lent.now.set.now in
-    let left = c.loop-left.left.items in
-    let n = c.min.result in (
-      subst (All (FitsSet set)) (sym c.in_ok-rest.ensures.tail) (All-drop (FitsSet set) n left c.loop-left.invariant.0),
-      more_margined set c.args.portfolios.items left c.split_off.new.self.items c.in_ok-rest.rest.items n c.loop-left.numbers.items
-          c.in_ok-margined.field-0.items c.append.new.self.items c.loop-left.invariant.1 c.in_ok-rest.ensures.items
-          c.in_ok-rest.ensures.tail c.in_ok-margined.ensures c.in_ok-append.ensures.items,
-    )
+    more_numbers (arc_value c.args.lent.now.set.now).tables c.args.all.now c.args.places.now c.loop-left.left.now c.split_at.result.0.now
+    c.split_at.result.1.now c.loop-left.numbers.items c.in_ok-margined.field-0.items c.append.new.self.items c.loop-left.invariant
+    c.split_at.ensures.by_index.0 c.in_ok-margined.ensures c.in_ok-append.ensures.items
+
+pub returns : goal.returns
+returns g c =
+    all_numbers (arc_value c.args.lent.now.set.now).tables c.args.all.now c.args.places.now c.loop-left.left.now c.loop-left.numbers.items
+    c.loop-left.invariant (search rules)

@@ -1,5 +1,5 @@
 use Rattle.std.proofs.Common.{◌≡◌, ◌++◌, arith, length}
-use Rattle.desks.specs.near.Keeping.{Kept}
+use Rattle.desks.specs.Requests.{Kept}
 use Rattle.desks.proofs.KeepLemmas.{added_front, added_whole}
 use Rattle.desks.proofs.kept_lines.KeptLine.add.Goals as goal
 
