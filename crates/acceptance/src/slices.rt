@@ -1,5 +1,5 @@
 //! Lists that are cut into slices, for concurrent threads.
-ghost use Rattle.std.specs.Prelude.{◌≡◌, ◌≤◌};
+ghost use Rattle.std.specs.Prelude.{◌≤◌};
 
 /// Returns the index at which a list of `count` elements is cut, so that `front` of its `slices` slices come before the
 /// cut.

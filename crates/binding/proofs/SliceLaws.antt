@@ -5,7 +5,7 @@ use Rattle.std.specs.Prelude.{All, bytes_eq, nat_lt}
 use Rattle.std.specs.List.{AllWithin, list_all, list_any, position_or_len}
 use Rattle.std.proofs.Math.Seq.{take-length}
 use Rattle.std.proofs.lemmas.Bool.{le-leb, lt-ltb}
-use Rattle.std.proofs.lemmas.List.{get_or-map, get_or_default, length-map}
+use Rattle.std.proofs.lemmas.List.{get_or-map, get_or_default}
 use Rattle.span_tables.specs.Net.{accounts_of}
 use Rattle.span_tables.specs.near.Positions.{named_position, named_positions}
 use Rattle.span_tables.specs.declared.records.NumberedPosition.{NumberedPosition}
@@ -62,13 +62,6 @@ whole_nets ids positions =
 module _ (positions : List PositionRecord) (records : List NumberedPosition)
     (named : named_positions (accounts_of positions) records ≡ positions)
     (known : All (λ (p : NumberedPosition). p.account < length (accounts_of positions)) records) (ids : List (List ℕ)) (f c : ℕ) where
-  -- the entry of the record at index i, from the found index of its contract
-  pub found_within : (i : ℕ) (found : List ℕ) → i < length records
-      → found ≡ map (λ (p : PositionRecord). contract_place ids p.contract) positions → i < length found
-  found_within i found lt are =
-      let many = ap length are ∙ length-map positions (λ (p : PositionRecord). contract_place ids p.contract) in
-      omega (arith, lt, many, as_many positions records named known)
-
   pub entry_is : (i : ℕ) (r : NumberedPosition) (found : List ℕ) (e : Entry) → i < length records → r ≡ get_or records i r
       → found ≡ map (λ (p : PositionRecord). contract_place ids p.contract) positions
       → e ≡ record { contract = get_or found i 0; quantity = r.quantity } → e ≡ entry_of ids (named_position (accounts_of positions) r)

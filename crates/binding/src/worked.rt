@@ -1,37 +1,13 @@
-//! Test vectors for faults, computed by the definitions alone.
+//! Test vectors for faults and orders, computed by the definitions alone.
 #![tactic(auto, unfolding(crate::specs::near::OnLiterals::on_literals))]
 
-ghost use Rattle.std.specs.List.{repeat};
-ghost use Rattle.std.specs.Prelude.{◌≡◌, ◌+◌, [], ◌∷◌, None, Some, codes, neg_ℤ, pos};
-ghost use Rattle.binding.specs.Binding.{bind_fault};
-ghost use Rattle.binding.specs.near.Samples.{contract_of};
-ghost use Rattle.binding.specs.near.Samples.{position_of};
+ghost use Rattle.std.specs.Prelude.{◌≡◌, ◌+◌, [], ◌∷◌, Ok, Some, codes, neg_ℤ, pos};
+ghost use Rattle.binding.specs.Binding.{bind_fault, bind_faults};
+ghost use Rattle.binding.specs.OrderBinding.{order_bind_fault, orders_bound};
+ghost use Rattle.binding.specs.near.Samples.{contract_of, order_of, portfolio_of, position_of};
 ghost use Rattle.binding.specs.declared.faults.BindFault.TheVariants as bind;
-ghost use Rattle.span_tables.specs.declared.limits.TheConstants.{MAX_HELD, MAX_NET};
-
-// B2 for an account and contract that are not the first of their account. Their first record is reported, with the
-// account.
-fn net_of_a_later_pair()
-    ensures { bind_fault (contract_of (codes "FA") ∷ contract_of (codes "FB") ∷ [])
-        (position_of (codes "X") (codes "FA") (pos 1) ∷ position_of (codes "X") (codes "FB") (pos 60000)
-        ∷ position_of (codes "X") (codes "FB") (pos 60000) ∷ [])
-        ≡ Some (bind.NetOutOfRange 2 (codes "X")) }
-{}
-
-// A net that is in range at the end, although it was out of range before.
-fn net_that_comes_back()
-    ensures { bind_fault (contract_of (codes "FA") ∷ [])
-        (position_of (codes "X") (codes "FA") (pos MAX_NET) ∷ position_of (codes "X") (codes "FA") (pos MAX_NET)
-        ∷ position_of (codes "X") (codes "FA") (neg_ℤ (pos MAX_NET)) ∷ [])
-        ≡ None }
-{}
-
-// Two accounts, each with a net in range. Together the nets would be out of range.
-fn nets_of_two_accounts()
-    ensures { bind_fault (contract_of (codes "FA") ∷ [])
-        (position_of (codes "X") (codes "FA") (pos MAX_NET) ∷ position_of (codes "Y") (codes "FA") (pos MAX_NET) ∷ [])
-        ≡ None }
-{}
+ghost use Rattle.binding.specs.declared.faults.OrderBindFault.TheVariants as order;
+ghost use Rattle.span_tables.specs.declared.limits.TheConstants.{MAX_NET};
 
 // B1 of the last record is reported before B2 of the first.
 fn unknown_contract_first()
@@ -40,13 +16,34 @@ fn unknown_contract_first()
         ≡ Some (bind.UnknownContract 2 (codes "Y")) }
 {}
 
-// B3: an account with the largest number of contracts allowed is within the limit. With one more it is reported, at its
-// first record. A contract that is listed several times gives one holding for each time, from a single record.
-fn one_contract_too_many()
-    ensures within { bind_fault (contract_of (codes "FB") ∷ repeat MAX_HELD (contract_of (codes "FA") ∷ []))
-        (position_of (codes "Y") (codes "FB") (pos 1) ∷ position_of (codes "X") (codes "FA") (pos 1) ∷ [])
-        ≡ None }
-    ensures over { bind_fault (contract_of (codes "FB") ∷ repeat (MAX_HELD + 1) (contract_of (codes "FA") ∷ []))
-        (position_of (codes "Y") (codes "FB") (pos 1) ∷ position_of (codes "X") (codes "FA") (pos 1) ∷ [])
-        ≡ Some (bind.TooManyHeld 2 (codes "X")) }
+// Each record of an unknown contract, and then the net of the other records, once, with the number of its first record
+// in the file.
+fn unknown_contracts_and_a_net()
+    ensures { bind_faults (contract_of (codes "FA") ∷ [])
+        (position_of (codes "X") (codes "FZ") (pos 1) ∷ position_of (codes "X") (codes "FA") (pos 60000)
+        ∷ position_of (codes "Y") (codes "FZ") (pos 5) ∷ position_of (codes "X") (codes "FA") (pos 60000) ∷ [])
+        ≡ bind.UnknownContract 1 (codes "X") ∷ bind.UnknownContract 3 (codes "Y") ∷ bind.NetOutOfRange 2 (codes "X") ∷ [] }
+{}
+
+// An order that closes the position in one contract and opens one in another, and an order of a new account.
+fn orders_that_fit()
+    ensures { orders_bound (contract_of (codes "FA") ∷ contract_of (codes "FB") ∷ []) (portfolio_of (codes "X") 0 (pos 5) ∷ [])
+        (order_of (codes "T") (codes "X") (codes "FB") (pos 2) ∷ order_of (codes "U") (codes "Y") (codes "FA") (pos 1)
+        ∷ order_of (codes "T") (codes "X") (codes "FA") (neg_ℤ (pos 5)) ∷ [])
+        ≡ Ok (record {
+          portfolios = portfolio_of (codes "X") 0 (pos 5) ∷ [];
+          orders = record { order = codes "T"; before = portfolio_of (codes "X") 0 (pos 5); after = portfolio_of (codes "X") 1 (pos 2) }
+              ∷ record {
+                order = codes "U";
+                before = record { account = codes "Y"; holdings = [] };
+                after = portfolio_of (codes "Y") 0 (pos 1);
+              } ∷ [];
+        }) }
+{}
+
+// B2: the account's net with the order is checked, and the first record of the order and contract is reported.
+fn net_with_the_position()
+    ensures { order_bind_fault (contract_of (codes "FA") ∷ contract_of (codes "FB") ∷ []) (portfolio_of (codes "X") 1 (pos MAX_NET) ∷ [])
+        (order_of (codes "T") (codes "X") (codes "FA") (pos 1) ∷ order_of (codes "T") (codes "X") (codes "FB") (pos 1) ∷ [])
+        ≡ Some (order.NetOutOfRange 2 (codes "T")) }
 {}

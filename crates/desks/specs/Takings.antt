@@ -6,7 +6,7 @@ use Rattle.desks.specs.Requests.{requests_in, whole_lines}
 use Rattle.desks.specs.declared.intake.Reach.{Reach}
 use Rattle.desks.specs.declared.intake.Reach.TheVariants as reach
 
--- the bytes that are still to be taken, if they are known: those of the block that was read last, and the reader's
+-- the bytes that are still to be taken, if they are known: the bytes of the block that was read last, and of the reader
 abbrev pub coming : List ℕ → Reading → Option (List ℕ)
 coming block reading = prepend_known block reading.bytes
 

@@ -1,18 +1,17 @@
 -- What accepted files provide: tables within their limits, portfolios that fit them, and names whose bytes are all
 -- greater than a comma.
-use Rattle.std.proofs.Common.{◌≡◌, ℕ, zero, suc, ◌≤◌, Bool, true, false, cond, not, ◌&&◌, List, [], ◌∷◌, ◌++◌, length, get_or, map}
-use Rattle.std.proofs.Common.{filter, Option, Some, None, Ok, Err, Result, refl, sym, ap, ◌∙◌, subst, arith}
+use Rattle.std.proofs.Common.{◌≡◌, ℕ, zero, suc, ◌≤◌, Bool, true, false, cond, not, ◌&&◌, List, [], ◌∷◌, ◌++◌, length, map}
+use Rattle.std.proofs.Common.{filter, Option, Some, None, Ok, refl, ap, subst, arith}
 use Rattle.std.specs.Prelude.{◌==◌, All, MatchOption, bytes_eq, filter_map, find, nat_le, option_map, slice_get, unwrap_or, ℤ}
 use Rattle.std.specs.List.{AllByRecursion, cons_option, list_all, zip}
 use Rattle.std.proofs.lemmas.Bool.{and_parts, not-false}
 use Rattle.std.proofs.lemmas.Bool.Decides.{nat_tests}
-use Rattle.std.proofs.lemmas.List.Elements.{All-head, All-map, All-tail}
-use Rattle.std.proofs.lemmas.List.Folds.{list_any_at}
+use Rattle.std.proofs.lemmas.List.Elements.{All-head, All-tail}
 use Rattle.span_tables.specs.Accepted.{IsWithinLimits}
 use Rattle.span_tables.specs.Faults.{first_of, ok_unless}
-use Rattle.span_tables.specs.Holdings.{ArePortfolio, fits}
+use Rattle.span_tables.specs.Holdings.{ArePortfolio}
 use Rattle.span_tables.specs.Laws.{IsFaultFree}
-use Rattle.span_tables.specs.Names.{distinct, is_among, is_name, is_name_byte}
+use Rattle.span_tables.specs.Names.{distinct, is_name, is_name_byte}
 use Rattle.span_tables.specs.Net.{AccountHoldings, HeldContract, accounts_of, held_contracts, held_of, holdings_of}
 use Rattle.span_tables.specs.Net.{portfolios_of}
 use Rattle.span_tables.specs.Rules.{as_commodity, as_contract, as_set}
@@ -26,32 +25,23 @@ use Rattle.span_tables.specs.declared.records.Record.{Record}
 use Rattle.span_tables.specs.declared.records.Record.TheVariants as record_of
 use Rattle.span_tables.specs.declared.records.SetRecord.{SetRecord}
 use Rattle.span_tables.proofs.FaultLaws.{first_fault_none}
-use Rattle.span_tables.proofs.KeptRules.{all_true, and_true, of_kind}
-use Rattle.span_tables.proofs.NameLemmas.{is_among-distinct}
+use Rattle.span_tables.proofs.KeptRules.{all_true, of_kind}
 use Rattle.span_tables.proofs.Ranges.{by_recursion}
 use Rattle.span_tables.proofs.WithinLimits.{readable, within_limits}
-use Rattle.span_csv.specs.ParamFaults.{params_of}
 use Rattle.span_csv.specs.PositionFaults.{position_faults, positions_of, record_fault}
 use Rattle.span_csv.specs.Records.{Fields, a_quantity, all_have, has_word_form, position_forms, position_record, records_of}
-use Rattle.span_csv.specs.declared.faults.ParamFault.{ParamFault}
 use Rattle.span_csv.specs.declared.faults.PositionFault.{PositionFault}
 use Rattle.span_csv.specs.declared.faults.PositionFault.TheVariants as position_fault
 use Rattle.span_csv.specs.declared.grammar.FieldForm.{FieldForm}
 use Rattle.span_csv.specs.declared.grammar.FieldForm.TheVariants as form
 use Rattle.span_csv.proofs.ReadableLaws.{params_readable}
-use Rattle.binding.specs.Binding.{bind_fault, bindings_of}
-use Rattle.param_check.specs.CheckFaults.{check_fault, checked}
-use Rattle.binding.specs.declared.faults.BindFault.{BindFault}
-use Rattle.param_check.specs.declared.faults.CheckFault.{CheckFault}
-use Rattle.binding.proofs.AcceptedLaws.{few_held, fit_of_none}
-use Rattle.binding.proofs.AccountLaws.{bytes_eq-refl}
-use Rattle.binding.proofs.PortfolioLaws.{portfolio_holds}
+use Rattle.binding.specs.Binding.{bindings_of}
 use Rattle.param_check.proofs.RuleLaws.{rules_kept}
-use Rattle.statement_text.specs.Statement.{accepted_of, and_then, portfolios_under}
-use Rattle.statement_text.specs.declared.faults.SpanFault.TheVariants as fault
-use Rattle.acceptance.proofs.FitLemmas.{bound_fits}
+use Rattle.statement_text.specs.Statement.{accepted_of, portfolios_under}
+use Rattle.acceptance.proofs.FitLemmas.{bound_fits, portfolios_hold}
 use Rattle.reasons.specs.Laws.{AreAccepted}
 use Rattle.explanation.proofs.ReadLemmas.{IsAbove}
+use Rattle.statement_text.proofs.AcceptedFiles.{accepted_are, bound_are}
 
 -- ---- names
 
@@ -77,38 +67,23 @@ pub record AreNamed (t : AcceptedTables) : Type 0 where
   pub contracts : All (λ x. IsAbove x.id) t.contracts
 
 set_named : (r : Record) → in_range r ≡ true → MatchOption (as_set r) (Unit {0}) (λ s. IsAbove s.id)
-set_named (record_of.Set s) e = name_above s.id (and_true _ _ e).0
-set_named (record_of.Commodity c) e = tt
-set_named (record_of.Contract x) e = tt
-set_named (record_of.Tier t) e = tt
-set_named (record_of.Intra s) e = tt
-set_named (record_of.Spot s) e = tt
-set_named (record_of.Inter s) e = tt
+set_named (record_of.Set s) e = name_above s.id (and_parts _ _ e).0
+set_named r e = tt
 
 commodity_named : (r : Record) → in_range r ≡ true → MatchOption (as_commodity r) (Unit {0}) (λ c. IsAbove c.id)
-commodity_named (record_of.Set s) e = tt
-commodity_named (record_of.Commodity c) e = name_above c.id (and_true _ _ e).0
-commodity_named (record_of.Contract x) e = tt
-commodity_named (record_of.Tier t) e = tt
-commodity_named (record_of.Intra s) e = tt
-commodity_named (record_of.Spot s) e = tt
-commodity_named (record_of.Inter s) e = tt
+commodity_named (record_of.Commodity c) e = name_above c.id (and_parts _ _ e).0
+commodity_named r e = tt
 
 -- the id of a contract that passes its range checks has only bytes greater than a comma
 contract_above : (x : Contract) → contract_in_range x ≡ true → IsAbove x.id
 contract_above x e = let last = all_true _ _ _ e in
     let middle = all_true _ _ _ last.0 in
-    let first = all_true _ _ _ (and_true _ _ middle.0).0 in
+    let first = all_true _ _ _ (and_parts _ _ middle.0).0 in
     name_above x.id first.0
 
 contract_named : (r : Record) → in_range r ≡ true → MatchOption (as_contract r) (Unit {0}) (λ x. IsAbove x.id)
-contract_named (record_of.Set s) e = tt
-contract_named (record_of.Commodity c) e = tt
 contract_named (record_of.Contract x) e = contract_above x e
-contract_named (record_of.Tier t) e = tt
-contract_named (record_of.Intra s) e = tt
-contract_named (record_of.Spot s) e = tt
-contract_named (record_of.Inter s) e = tt
+contract_named r e = tt
 
 first_above : (ss : List SetRecord) → All (λ s. IsAbove s.id) ss
     → IsAbove (unwrap_or (option_map (λ s. s.id) (find (λ s. true) ss)) [])
@@ -131,77 +106,25 @@ pub record IsRead (t : AcceptedTables) : Type 0 where
   pub limits : IsWithinLimits t
   pub named : AreNamed t
 
-checked_read : (records : List Record) (t : AcceptedTables) → is_readable records ≡ true
-    → and_then fault.Check (checked records) (λ tables. Ok tables) ≡ Ok t → IsRead t
-unfolding checked
-checked_read records t read e = by (check_fault records) refl e where
-  by : (o : Option CheckFault) → check_fault records ≡ o
-      → and_then fault.Check (ok_unless o (tables_of records)) (λ tables. Ok tables) ≡ Ok t → IsRead t
-  by (Some f) is e = cc
-  by None is e =
-      let same_tables : tables_of records ≡ t = cc in
-      subst IsRead same_tables (record {
-        limits = within_limits records read (rules_kept records is);
-        named = tables_named records read;
-      })
-
 pub tables_read : (params : List ℕ) (t : AcceptedTables) → accepted_of params ≡ Ok t → IsRead t
-unfolding accepted_of
-tables_read params t e = by (params_of params) refl e where
-  by : (r : Result (List Record) ParamFault) → params_of params ≡ r
-      → and_then fault.Params r (λ records. and_then fault.Check (checked records) (λ tables. Ok tables)) ≡ Ok t → IsRead t
-  by (Err f) is e = cc
-  by (Ok records) is e = checked_read records t (params_readable params records is) e
+tables_read params t e =
+    let are = accepted_are params t e in
+    let read = params_readable params are.0 are.1 in
+    subst IsRead are.3 (record { limits = within_limits are.0 read (rules_kept are.0 are.2); named = tables_named are.0 read })
 
 -- ---- portfolios
-
-bound_are : (t : AcceptedTables) (positions : List PositionRecord) (portfolios : List AccountHoldings)
-    → portfolios_under t positions ≡ Ok portfolios
-    → (bind_fault t.contracts positions ≡ None) × (portfolios_of t.contracts positions ≡ portfolios)
-unfolding portfolios_under bindings_of
-bound_are t positions portfolios e = by (bind_fault t.contracts positions) refl e where
-  by : (o : Option BindFault) → bind_fault t.contracts positions ≡ o
-      → and_then fault.Bind (ok_unless o (portfolios_of t.contracts positions)) (λ found. Ok found) ≡ Ok portfolios
-      → (bind_fault t.contracts positions ≡ None) × (portfolios_of t.contracts positions ≡ portfolios)
-  by (Some f) is e = cc
-  by None is e = (is, cc)
-
--- the holdings of each account are a portfolio if the positions have no fault
-portfolios_hold : (contracts : List Contract) (positions : List PositionRecord) → bind_fault contracts positions ≡ None
-    → All (λ p. ArePortfolio p.holdings) (portfolios_of contracts positions)
-unfolding portfolios_of
-portfolios_hold contracts positions none =
-    let names = map (λ (p : PositionRecord). p.account) positions in
-    All-map (λ (p : AccountHoldings). ArePortfolio p.holdings)
-    (λ name. record { account = name; holdings = holdings_of contracts positions name }) (accounts_of positions) (λ k d lt.
-    let name = get_or (accounts_of positions) k d in
-    let among : is_among names name ≡ true =
-    sym (is_among-distinct names name) ∙ list_any_at (bytes_eq name) (accounts_of positions) k d lt (bytes_eq-refl name) in
-    portfolio_holds contracts positions name (fit_of_none contracts positions none).within
-    (few_held contracts positions none name among))
-
-fitted : (t : AcceptedTables) (positions : List PositionRecord) (portfolios : List AccountHoldings)
-    → bindings_of t.contracts positions ≡ Ok portfolios → All (λ p. fits (length t.contracts) p.holdings ≡ true) portfolios
-fitted t positions portfolios e = bound_fits t.contracts positions portfolios e
-
-bindings_are : (t : AcceptedTables) (positions : List PositionRecord) (portfolios : List AccountHoldings)
-    → portfolios_under t positions ≡ Ok portfolios → bindings_of t.contracts positions ≡ Ok portfolios
-unfolding portfolios_under
-bindings_are t positions portfolios e = by (bindings_of t.contracts positions) refl e where
-  by : (r : Result (List AccountHoldings) BindFault) → bindings_of t.contracts positions ≡ r
-      → and_then fault.Bind r (λ found. Ok found) ≡ Ok portfolios → bindings_of t.contracts positions ≡ Ok portfolios
-  by (Err f) is e = cc
-  by (Ok found) is e = let same_found : found ≡ portfolios = cc in is ∙ ap Ok same_found
 
 -- each account of accepted files is accepted
 pub portfolios_accepted : (params : List ℕ) (t : AcceptedTables) (positions : List PositionRecord) (portfolios : List AccountHoldings)
     → accepted_of params ≡ Ok t → portfolios_under t positions ≡ Ok portfolios → All (λ p. AreAccepted t p.holdings) portfolios
+unfolding bindings_of
 portfolios_accepted params t positions portfolios a b =
     let read = tables_read params t a in
     let bound = bound_are t positions portfolios b in
     let held : All (λ p. ArePortfolio p.holdings) portfolios =
     subst (All (λ (p : AccountHoldings). ArePortfolio p.holdings)) bound.1 (portfolios_hold t.contracts positions bound.0) in
-    let fit = fitted t positions portfolios (bindings_are t positions portfolios b) in
+    let bindings : bindings_of t.contracts positions ≡ Ok portfolios = rw bound.0 (ap Ok bound.1) in
+    let fit = bound_fits t.contracts positions portfolios bindings in
     λ k d lt. record { limits = read.limits; portfolio = held k d lt; known = fit k d lt }
 
 -- ---- accounts

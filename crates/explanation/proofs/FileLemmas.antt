@@ -1,5 +1,5 @@
 -- The contents of two files, and the explanation of them.
-use Rattle.std.proofs.Common.{◌≡◌, ℕ, suc, Bool, true, false, cond, List, [], ◌∷◌, Option, Some, Ok, Err, Result, refl, sym, ap, ◌∙◌}
+use Rattle.std.proofs.Common.{◌≡◌, ℕ, suc, Bool, true, false, cond, List, [], ◌∷◌, Option, Some, Ok, Err, refl, ap, ◌∙◌}
 use Rattle.std.proofs.Common.{arith, flat_map, None, subst}
 use Rattle.std.specs.Prelude.{All, bytes_eq, find}
 use Rattle.span_money.specs.LineFields.{line}

@@ -28,11 +28,7 @@ use Rattle.explanation.proofs.AcceptedLemmas.{accounts_named, tables_read}
 use Rattle.explanation.proofs.FileLemmas.{accepted_explained}
 use Rattle.explanation.proofs.PlainLemmas.{accounts_plain}
 use Rattle.explanation.proofs.ReadLemmas.{lines_are_read}
-
--- the text of the lines of a list of items is the concatenation of the texts of each item's lines
-pub texts_of : {A : Type 0} (f : A → List Line) (xs : List A) → flat_map line (flat_map f xs) ≡ flat_map (λ x. flat_map line (f x)) xs
-texts_of f [] = refl
-texts_of f (x ∷ xs) = flat_map-append line (f x) (flat_map f xs) ∙ ap (λ t. flat_map line (f x) ++ t) (texts_of f xs)
+use Rattle.span_money.proofs.LinePartLemmas.{texts_of}
 
 -- the lines of the statement among a list of lines
 abbrev pub of_statement : List Line → List Line

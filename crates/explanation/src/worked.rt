@@ -2,26 +2,12 @@
 #![tactic(auto, unfolding(crate::specs::near::OnLiterals::on_literals))]
 
 ghost use Rattle.explanation.specs.Explanation.{explanation_of};
-ghost use Rattle.statement_text.specs.declared.faults.SpanFault.TheVariants as fault;
-ghost use Rattle.statement_text.specs.near.Samples.{ca, fa, one_future, spread_and_spot, two_commodities};
-ghost use Rattle.std.specs.Prelude.{◌++◌, ◌≡◌, Err, None, Ok, Some, codes};
-
-// A spread between two months forms twice, and uses two of the three deltas of a spot month.
-fn one_spread()
-    ensures { explanation_of (spread_and_spot (codes "D1") (codes "250,1,A,1,2,B,1")) (codes "X,FA,3\nX,FA2,-2\n") None
-        ≡ Ok (codes "HELD,X,D1,AA,FA,F,202503,3\nHELD,X,D1,AA,FA2,F,202506,-2\n"
-        ++ codes "SUMS,X,D1,AA,0,0,-400,-400,400,400,-800,-800,800,800,-1200,-1200,1200,1200,-1188,1188\n"
-        ++ codes "SCAN,X,D1,AA,1200,13,14,1200\n"
-        ++ codes "MONTH,X,D1,AA,202503,3,1\nMONTH,X,D1,AA,202506,-2,0\n"
-        ++ codes "INTRA,X,D1,AA,1,A,2,250,500\n"
-        ++ codes "SPOT,X,D1,AA,202503,2,10,1,20,40\n"
-        ++ codes "CREDIT,X,D1,AA,1200,1,0\nSHORT,X,D1,AA,0,0,SUM,0\n"
-        ++ codes "R,X,D1,AA,1200,13,500,40,0,0,1740\nT,X,D1,1740\n") }
-{}
+ghost use Rattle.statement_text.specs.near.Samples.{fa, spread_and_spot, two_commodities};
+ghost use Rattle.std.specs.Prelude.{◌++◌, ◌≡◌, None, Ok, codes};
 
 // A third of a spread: fractions with four and with eight decimal places, and charges before they are rounded up.
 fn part_of_a_spread()
-    ensures { explanation_of (spread_and_spot (codes "D1") (codes "250,1,A,3,2,B,3")) (codes "X,FA,1\nX,FA2,-1\n") None
+    ensures { explanation_of (spread_and_spot (codes "250,1,A,3,2,B,3")) (codes "X,FA,1\nX,FA2,-1\n") None
         ≡ Ok (codes "HELD,X,D1,AA,FA,F,202503,1\nHELD,X,D1,AA,FA2,F,202506,-1\n"
         ++ codes "SUMS,X,D1,AA,0,0,0,0,0,0,0,0,0,0,0,0,0,0,0,0\nSCAN,X,D1,AA,0,1,2,0\n"
         ++ codes "MONTH,X,D1,AA,202503,1,0.0001\nMONTH,X,D1,AA,202506,-1,-0.0001\n"
@@ -43,20 +29,4 @@ fn two_commodities_with_a_credit()
         ++ codes "SCAN,X,D1,BB,900,11,12,900\nMONTH,X,D1,BB,202503,-1,-1\nINTER,X,D1,BB,1,A,1,1,5000\n"
         ++ codes "CREDIT,X,D1,BB,900,-1,5000\nSHORT,X,D1,BB,0,0,SUM,0\nR,X,D1,BB,900,11,0,0,450,0,450\n"
         ++ codes "T,X,D1,1050\n") }
-{}
-
-// Two short calls worth 120 each: a HELD line has the value of the position.
-fn option_values()
-    ensures { explanation_of (codes "SET,D2,2,USD\n" ++ codes "COMMODITY,AA,500,SUM\n" ++ ca (codes ",120")) (codes "X,CA,-2\n") None
-        ≡ Ok (codes "HELD,X,D2,AA,CA,C,202503,-2,-240\n"
-        ++ codes "SUMS,X,D2,AA,10,6,18,14,8,4,24,22,6,2,40,38,4,2,30,2\n"
-        ++ codes "SCAN,X,D2,AA,40,11,12,31\nMONTH,X,D2,AA,202503,-1,-1\n"
-        ++ codes "CREDIT,X,D2,AA,31,-1,0\nSHORT,X,D2,AA,2,0,SUM,500\n"
-        ++ codes "R,X,D2,AA,40,11,0,0,0,1000,1000\nT,X,D2,1000,-240,1240,0\n") }
-{}
-
-// An account whose positions cancel out, explained alone, and an account without positions.
-fn one_account()
-    ensures nothing_held { explanation_of one_future (codes "Y,FA,1\nX,FA,1\nX,FA,-1\n") (Some (codes "X")) ≡ Ok (codes "T,X,D1,0\n") }
-    ensures unknown { explanation_of one_future (codes "Y,FA,1\n") (Some (codes "X")) ≡ Err (fault.UnknownAccount (codes "X")) }
 {}

@@ -5,7 +5,7 @@ use Rattle.std.specs.List.{list_any}
 use Rattle.std.proofs.Math.Bool.{or-false, and-true}
 use Rattle.std.proofs.lemmas.List.Folds.{list_any-append}
 use Rattle.span_tables.specs.Rules.{is_and, as_commodity, as_contract, as_tier, as_intra, as_inter, as_spot}
-use Rattle.span_tables.specs.Rules.{commodities_in, has_tier, names_no_commodity, names_no_tier}
+use Rattle.span_tables.specs.Rules.{commodities_in, names_no_commodity, names_no_tier}
 use Rattle.span_tables.specs.declared.records.Record.{Record}
 use Rattle.span_tables.specs.declared.records.Record.TheVariants as record_of
 use Rattle.param_check.specs.near.Keys.{has_key, is_key_among, is_key_unknown, is_same, key_of, name_key, names_unknown, names_unknown_tier}

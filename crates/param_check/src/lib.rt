@@ -6,7 +6,6 @@ pub mod fault_laws;
 pub mod faults;
 pub mod laws;
 mod worked;
-mod worked_faults;
 
 pub use binding::orders;
 pub use binding::positions::{bind, bind_faults};

@@ -4,7 +4,7 @@ use Rattle.std.proofs.Common.{List, [], ◌∷◌, ◌++◌, map, filter}
 use Rattle.std.proofs.Common.{Option, Some, None, Ok, refl, sym, ap}
 use Rattle.std.specs.Prelude.{bytes_eq, flat_map, length, nat_abs, nat_lt}
 use Rattle.std.specs.List.{enumerate_from, list_any}
-use Rattle.std.proofs.lemmas.Bool.{or_parts, true≢false}
+use Rattle.std.proofs.lemmas.Bool.{or_parts, true≢false, or_right, or_from}
 use Rattle.std.proofs.lemmas.Grind.{flat_map-append}
 use Rattle.std.proofs.lemmas.List.{append-nil, map-append}
 use Rattle.std.proofs.lemmas.List.Elements.{filter-append}
@@ -28,13 +28,6 @@ use Rattle.statement_text.specs.Statement.{and_then, portfolios_under, row_text,
 use Rattle.statement_text.specs.declared.faults.SpanFault.TheVariants as fault
 
 -- ---- names
-
-or_right : (a b : Bool) → b ≡ true → (a || b) ≡ true
-or_right true b e = refl
-or_right false b e = e
-
-or_left : (a b : Bool) → a ≡ true → (a || b) ≡ true
-or_left a b e = rw e refl
 
 -- the first name of a list is among its names
 pub first_among : (name : List ℕ) (names : List (List ℕ)) → is_among (name ∷ names) name ≡ true
@@ -229,15 +222,12 @@ module _ (contracts : List Contract) (ps qs : List PositionRecord) (apart : AreA
       any_joined (exceeds_held contracts) (λ xs ys p alike.
       ap (λ hs. nat_lt MAX_HELD (length hs)) (holdings_alone contracts xs ys p.account alike))
 
-  neither : (a b : Bool) → a ≡ false → b ≡ false → (a || b) ≡ false
-  neither a b e f = rw (e, f) refl
-
   -- two parts that are fit are fit together
   fit_joined : IsFit contracts ps → IsFit contracts qs → IsFit contracts (ps ++ qs)
   fit_joined one other = record {
-    known = known_joined ∙ neither _ _ one.known other.known;
-    within = nets_joined ∙ neither _ _ one.within other.within;
-    few = held_joined ∙ neither _ _ one.few other.few;
+    known = known_joined ∙ or_from _ _ one.known other.known;
+    within = nets_joined ∙ or_from _ _ one.within other.within;
+    few = held_joined ∙ or_from _ _ one.few other.few;
   }
 
   -- if both parts together are fit, each part is fit

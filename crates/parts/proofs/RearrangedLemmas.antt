@@ -19,7 +19,7 @@ use Rattle.span_tables.specs.declared.portfolios.Holding.{Holding}
 use Rattle.span_tables.specs.declared.records.Contract.{Contract}
 use Rattle.span_tables.specs.declared.records.PositionRecord.{PositionRecord}
 use Rattle.span_tables.proofs.NameLaws.{distinct_once}
-use Rattle.span_tables.proofs.NameLemmas.{is_among-distinct, same_name}
+use Rattle.span_tables.proofs.NameLemmas.{is_among-distinct, same_name, among_others}
 use Rattle.span_tables.proofs.SumLaws.{int_sum_by-cons, int_sum_by-if}
 use Rattle.binding.specs.Binding.{exceeds_held, exceeds_net, is_unknown}
 use Rattle.binding.proofs.AcceptedLaws.{IsFit}
@@ -123,18 +123,6 @@ once_kept test (x ∷ names) once =
     by true rest new = rw (new, rest) refl
     by false rest new = rest
 
--- removing one name does not change whether another name is in the list
-others_stay : (gone name : List ℕ) (names : List (List ℕ)) → bytes_eq name gone ≡ false
-    → is_among (filter (λ other. not (bytes_eq other gone)) names) name ≡ is_among names name
-others_stay gone name [] apart = refl
-others_stay gone name (x ∷ names) apart =
-    elim (cases_Bool (bytes_eq x gone)) [
-      | inl same ↦
-          let other : bytes_eq name x ≡ false = ap (bytes_eq name) (same_name x gone same) ∙ apart in
-          rw (same, other) (others_stay gone name names apart)
-      | inr kept ↦ rw kept (ap (λ b. bytes_eq name x || b) (others_stay gone name names apart))
-    ]
-
 -- the removed name is not in the list
 gone_is_none : (gone : List ℕ) (names : List (List ℕ)) → is_among (filter (λ other. not (bytes_eq other gone)) names) gone ≡ false
 gone_is_none gone [] = refl
@@ -164,7 +152,7 @@ same_names (x ∷ xs) ys once other_once same =
         ap (is_among xs) it ∙ new
         ∙ sym (ap (is_among (filter (λ other. not (bytes_eq other x)) ys)) it ∙ gone_is_none x ys)
     by name new false e =
-        ap (λ b. b || is_among xs name) (sym e) ∙ same name ∙ sym (others_stay x name ys e)
+        ap (λ b. b || is_among xs name) (sym e) ∙ same name ∙ sym (among_others x name ys e)
 
 -- names in another order have the same distinct names
 pub names_rearranged : (names others : List (List ℕ)) → IsPermutation names others

@@ -91,13 +91,8 @@ module _ (t : AcceptedTables) where
 
   pub known_wanted : (o : Op) → IsPlanned t o → AllByRecursion (IsPlanned t) (wanted t o)
   known_wanted (op.Gather c) known = tt
-  known_wanted (op.Sums c) known = (known, tt)
-  known_wanted (op.ScanMax c) known = (known, tt)
-  known_wanted (op.Months c) known = (known, tt)
-  known_wanted (op.TierStart c) known = (known, tt)
   known_wanted (op.Spread c j) known = (known_before_spread c j known.0 (omega (arith, known.1)), tt)
   known_wanted (op.Delivery c) known = (known, (known_before_spread c (length (intras_at t c)) known (omega arith), tt))
-  known_wanted (op.Minimum c) known = (known, tt)
   known_wanted (op.Final c) known =
       let tiers = known_before_spread c (length (intras_at t c)) known (omega arith) in
       (known, (tiers, (known, (known, (known_before_inter (length (inters_of t)) (omega arith), tt)))))
@@ -109,6 +104,7 @@ module _ (t : AcceptedTables) where
   known_wanted (op.NetValue c) known = (known.1, tt)
   known_wanted op.ValueStart known = tt
   known_wanted (op.ValueAdd c) known = (known_before_value known.0 c (omega (arith, known.1)), (known, tt))
+  known_wanted o known = (known, tt)
 
   -- ---- the inputs of a step are the step numbers of the operations that its operation requires
 

@@ -25,23 +25,10 @@ IsPlanned t (op.ValueAdd c) = ((facts_in t).options_have_value ≡ true) × (c <
 IsPlanned t o = IsOp t o
 
 pub planned_is_op : (t : AcceptedTables) (o : Op) → IsPlanned t o → IsOp t o
-planned_is_op t (op.Gather c) is = is
-planned_is_op t (op.Sums c) is = is
-planned_is_op t (op.ScanMax c) is = is
-planned_is_op t (op.Months c) is = is
-planned_is_op t (op.TierStart c) is = is
-planned_is_op t (op.Spread c j) is = is
-planned_is_op t (op.Delivery c) is = is
-planned_is_op t (op.Minimum c) is = is
-planned_is_op t (op.Final c) is = is
-planned_is_op t op.InterStart is = is
-planned_is_op t (op.InterLoad c) is = is
-planned_is_op t (op.InterSpread j) is = is
-planned_is_op t op.TotalStart is = is
-planned_is_op t (op.TotalAdd c) is = is
 planned_is_op t (op.NetValue c) is = is.1
 planned_is_op t op.ValueStart is = tt
 planned_is_op t (op.ValueAdd c) is = is.1
+planned_is_op t o is = is
 
 -- operations for one more number
 pub each_more : (f : ℕ → List Op) (n : ℕ) → each f (n + 1) ≡ each f n ++ f n

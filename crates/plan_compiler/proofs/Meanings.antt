@@ -118,20 +118,12 @@ module _ (t : AcceptedTables) (holdings : List Holding) where
 
   pub gives_meaning : (o : Op) → IsOp t o → value_on t holdings o (map (meaning t holdings) (wanted t o)) ≡ meaning t holdings o
   unfolding figures_of
-  gives_meaning (op.Gather c) known = refl
-  gives_meaning (op.Sums c) known = refl
-  gives_meaning (op.ScanMax c) known = refl
-  gives_meaning (op.Months c) known = refl
-  gives_meaning (op.TierStart c) known = refl
   gives_meaning (op.Spread c j) known = rw (meaning-before_spread c j) (ap value.Tiers (spread_more c j known.1))
   gives_meaning (op.Delivery c) known = rw (meaning-last_tiers c) refl
-  gives_meaning (op.Minimum c) known = refl
   gives_meaning (op.Final c) known = rw (meaning-last_tiers c, meaning-last_inter) refl
   gives_meaning op.InterStart known = rw sub-zero refl
   gives_meaning (op.InterLoad c) known = rw (meaning-before_load c) (ap value.Inter (load_more c known))
   gives_meaning (op.InterSpread j) known = rw (meaning-before_inter j) (ap value.Inter (inter_more j known))
-  gives_meaning op.TotalStart known = refl
   gives_meaning (op.TotalAdd c) known = rw (meaning-before_total c) (ap value.Total (total_more c))
-  gives_meaning (op.NetValue c) known = refl
-  gives_meaning op.ValueStart known = refl
   gives_meaning (op.ValueAdd c) known = rw (meaning-before_value c) (ap value.Premium (value_more c))
+  gives_meaning o known = refl

@@ -1,5 +1,5 @@
 -- Each operation takes the meanings of the operations that it requires.
-use Rattle.std.proofs.Common.{◌≡◌, ℕ, suc, ◌+◌, ◌-◌, ◌<◌, ◌≤◌, true, List, [], ◌∷◌, ◌++◌}
+use Rattle.std.proofs.Common.{◌≡◌, ℕ, suc, ◌+◌, ◌-◌, ◌<◌, ◌≤◌, true, List, ◌∷◌, ◌++◌}
 use Rattle.std.proofs.Common.{length, map, take, refl, sym, ap, ◌∙◌, arith, pos, nat_abs}
 use Rattle.std.specs.Prelude.{All, Some, replicate, slice_get}
 use Rattle.std.specs.List.{range_with_len}
@@ -27,11 +27,7 @@ use Rattle.plan_ir.specs.declared.ops.Op.TheVariants as op
 use Rattle.plan_compiler.specs.Meaning.{states_after_first, states_loaded, meaning, wanted}
 use Rattle.plan_compiler.proofs.Meanings.{meaning-before_inter, meaning-before_load, meaning-before_spread, meaning-before_total}
 use Rattle.plan_compiler.proofs.Meanings.{meaning-before_value, meaning-last_inter, meaning-last_tiers}
-
--- the element after a prefix
-at_seam : {A : Type 0} (xs : List A) (x : A) (ys : List A) → slice_get (xs ++ x ∷ ys) (length xs) ≡ Some x
-at_seam [] x ys = refl
-at_seam (y ∷ xs) x ys = at_seam xs x ys
+use Rattle.span_tables.proofs.NetLaws.{get_behind}
 
 module _ (t : AcceptedTables) (holdings : List Holding) (limits : IsWithinLimits t) (portfolio : ArePortfolio holdings)
     (known : fits (length t.contracts) holdings ≡ true) where
@@ -81,7 +77,7 @@ module _ (t : AcceptedTables) (holdings : List Holding) (limits : IsWithinLimits
       let here : slice_get (states_loaded t holdings c) c ≡ Some none =
       ap (λ n. slice_get (front ++ replicate n none) c) one_more
       ∙ ap (slice_get (front ++ none ∷ replicate (length t.commodities - (c + 1)) none)) (sym long)
-      ∙ at_seam front none (replicate (length t.commodities - (c + 1)) none) in
+      ∙ get_behind front none (replicate (length t.commodities - (c + 1)) none) in
       rw here (refl, refl)
 
   pub unspread : (c : ℕ) → IsUnspread (states_loaded t holdings c)

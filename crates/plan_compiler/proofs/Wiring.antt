@@ -59,60 +59,34 @@ module _ (t : AcceptedTables) (limits : IsWithinLimits t) where
       omega (arith, length_ops t, few_premiums t, small, commodities, inters)
 
   pub few_inputs : (o : Op) → length (wanted t o) ≤ MAX_INPUTS
-  few_inputs (op.Gather c) = omega arith
-  few_inputs (op.Sums c) = omega arith
-  few_inputs (op.ScanMax c) = omega arith
-  few_inputs (op.Months c) = omega arith
-  few_inputs (op.TierStart c) = omega arith
-  few_inputs (op.Spread c j) = omega arith
-  few_inputs (op.Delivery c) = omega arith
-  few_inputs (op.Minimum c) = omega arith
   few_inputs (op.Final c) = omega arith
-  few_inputs op.InterStart = omega arith
-  few_inputs (op.InterLoad c) = omega arith
-  few_inputs (op.InterSpread j) = omega arith
-  few_inputs op.TotalStart = omega arith
-  few_inputs (op.TotalAdd c) = omega arith
-  few_inputs (op.NetValue c) = omega arith
-  few_inputs op.ValueStart = omega arith
-  few_inputs (op.ValueAdd c) = omega arith
+  few_inputs o = omega arith
 
   -- ---- distinct inputs
 
   pub apart : (o : Op) → IsOp t o → has_repeat (λ a b. a == b) (inputs_of t o) ≡ false
-  apart (op.Gather c) known = refl
-  apart (op.Sums c) known = refl
-  apart (op.ScanMax c) known = refl
-  apart (op.Months c) known = refl
-  apart (op.TierStart c) known = refl
-  apart (op.Spread c j) known = refl
   apart (op.Delivery c) known =
       let n = length (intras_at t c) in
       rw (place-before_spread t c n) (two_apart (first_step t c + 3) (tiers_step t c n) (λ e. omega (arith, e)))
-  apart (op.Minimum c) known = refl
   apart (op.Final c) known =
       let before = first_before t c (length t.commodities) known in
       let tiers = tiers_step t c (length (intras_at t c)) in
       rw (place-before_spread t c (length (intras_at t c)), place-before_inter t (length (inters_of t)))
       (five_rising (first_step t c + 2) tiers (tiers + 1) (tiers + 2) (inter_step t (length (inters_of t)))
       (omega arith) (omega arith) (omega arith) (omega (arith, before)))
-  apart op.InterStart known = refl
   apart (op.InterLoad c) known =
       let before = first_before t c (length t.commodities) known in
       rw (place-before_load t c) (three_apart (load_step t c) (first_step t c + 3) (first_step t c + 2)
       (λ e. omega (arith, e, before)) (λ e. omega (arith, e, before)) (λ e. omega (arith, e)))
-  apart (op.InterSpread j) known = refl
-  apart op.TotalStart known = refl
   apart (op.TotalAdd c) known =
       let before = first_before t c (length t.commodities) known in
       rw (place-before_total t c) (two_apart (total_step t c) (tiers_step t c (length (intras_at t c)) + 3 + value_steps t)
       (λ e. omega (arith, e, before)))
-  apart (op.NetValue c) known = refl
-  apart op.ValueStart known = refl
   apart (op.ValueAdd c) known =
       let before = first_before t c (length t.commodities) known in
       rw (place-before_value t c) (two_apart (premium_step t c) (tiers_step t c (length (intras_at t c)) + 3)
       (λ e. omega (arith, e, before)))
+  apart o known = refl
 
   -- ---- lower ranks
 
@@ -141,13 +115,8 @@ module _ (t : AcceptedTables) (limits : IsWithinLimits t) where
 
   wanted_lower_each : (o : Op) → AllByRecursion (λ w. rank_of t w < rank_of t o) (wanted t o)
   wanted_lower_each (op.Gather c) = tt
-  wanted_lower_each (op.Sums c) = (omega arith, tt)
-  wanted_lower_each (op.ScanMax c) = (omega arith, tt)
-  wanted_lower_each (op.Months c) = (omega arith, tt)
-  wanted_lower_each (op.TierStart c) = (omega arith, tt)
   wanted_lower_each (op.Spread c j) = (before_spread_lower c j, tt)
   wanted_lower_each (op.Delivery c) = (omega arith, (last_tiers_lower c, tt))
-  wanted_lower_each (op.Minimum c) = (omega arith, tt)
   wanted_lower_each (op.Final c) =
       let inter = before_inter_lower (length (inters_of t)) in
       (omega arith, (omega (arith, last_tiers_lower c), (omega arith, (omega arith, (omega (arith, inter), tt)))))
@@ -156,9 +125,9 @@ module _ (t : AcceptedTables) (limits : IsWithinLimits t) where
   wanted_lower_each (op.InterSpread j) = (before_inter_lower j, tt)
   wanted_lower_each op.TotalStart = tt
   wanted_lower_each (op.TotalAdd c) = (before_total_lower c, (omega arith, tt))
-  wanted_lower_each (op.NetValue c) = (omega arith, tt)
   wanted_lower_each op.ValueStart = tt
   wanted_lower_each (op.ValueAdd c) = (before_value_lower c, (omega arith, tt))
+  wanted_lower_each o = (omega arith, tt)
 
   pub wanted_lower : (o : Op) → All (λ w. rank_of t w < rank_of t o) (wanted t o)
   wanted_lower o = All-from_recursion (λ w. rank_of t w < rank_of t o) (wanted t o) (wanted_lower_each o)

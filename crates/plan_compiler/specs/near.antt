@@ -3,5 +3,4 @@ pub mod Beginnings
 pub mod Layout
 pub mod OnLiterals
 pub mod Ready
-pub mod Samples
 pub mod Sets

@@ -1,6 +1,6 @@
 //! Results that are offered to a board. The board accepts only a result of a step that it handed out and that is not
 //! finished.
-ghost use Rattle.std.specs.Prelude.{◌≡◌, IfSome};
+ghost use Rattle.std.specs.Prelude.{◌≡◌};
 ghost use Rattle.std.specs.Arc.{arc_value};
 
 use sample_files::{one_future, three_commodities, two_commodities};

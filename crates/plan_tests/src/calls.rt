@@ -4,7 +4,6 @@
 //! The calls of a shelf are tested by `one_reader`.
 ghost use Rattle.std.specs.Prelude.{◌≡◌, length, true};
 ghost use Rattle.span_tables.specs.Holdings.{fits};
-ghost use Rattle.step_scheduler.specs.Boards.{IsComplete};
 
 use plan_compiler::set::{CompiledSet, compile};
 use plan_ir::evaluation::apply;
@@ -85,7 +84,7 @@ fn values_of_steps(rt: &impl Abort, alloc: Global, tables: &Tables, account: &Po
 }
 
 // `step_scheduler` and `result_book`: a board that is run to its end by steps, and a whole board, with the rows of
-// both, and the figures of the first.
+// both.
 fn boards_run(rt: &impl Abort, alloc: Global, job: &Arc<Job>) -> Arc<Row> {
     let mut board = board_of(alloc, job).expect(rt, "a board");
     for _ in 0..job.plan().len() {
@@ -94,18 +93,7 @@ fn boards_run(rt: &impl Abort, alloc: Global, job: &Arc<Job>) -> Arc<Row> {
     }
     assert!(rt; board.is_complete());
     assert!(rt; whole_row(rt, alloc, job).total().get() == 1200);
-    let row = Row::of(alloc, &board).expect(rt, "a row");
-    figures_handed_over(rt, alloc, board);
-    row
-}
-
-// The figures of the one commodity, in the order of an R line.
-fn figures_handed_over(rt: &impl Abort, alloc: Global, board: Board)
-    requires { IsComplete board }
-{
-    let figures = board.into_figures(alloc).expect(rt, "figures");
-    let numbers = figures.iter().map(|figures| figures.numbers());
-    assert!(rt; numbers.eq([[1200, 13, 0, 0, 0, 0, 1200]]));
+    Row::of(alloc, &board).expect(rt, "a row")
 }
 
 // The row of a whole board, which runs along a copy of the course.

@@ -1,20 +1,19 @@
 -- For accepted files, the values in the lines of a commodity are within limits.
-use Rattle.std.proofs.Common.{◌≡◌, ℕ, zero, suc, ◌+◌, ◌-◌, ◌*◌, ◌%◌, ◌<◌, ◌≤◌, Bool, true, false, cond, List, [], ◌∷◌, length, refl, arith}
+use Rattle.std.proofs.Common.{◌≡◌, ℕ, ◌+◌, ◌-◌, ◌*◌, ◌%◌, ◌<◌, ◌≤◌, Bool, true, false, cond, List, [], ◌∷◌, length, refl, arith}
 use Rattle.std.proofs.Common.{◌^◌, ap, get_or, nat_abs}
-use Rattle.std.specs.Prelude.{All, None, Some, ℤ, pos, negsuc, ◌==◌, nat_lt, unwrap_or}
+use Rattle.std.specs.Prelude.{All, None, Some, ℤ, pos, ◌==◌, nat_lt, unwrap_or}
 use Rattle.std.specs.List.{position_or_len, range_with_len}
 use Rattle.std.proofs.Math.Nat.{mul-le-mul_right}
 use Rattle.std.proofs.lemmas.Bool.Decides.{nat_tests}
-use Rattle.std.proofs.lemmas.List.FromFn.{get_or-range_with_len, length-map-range_with_len, length-range_with_len}
-use Rattle.std.proofs.lemmas.List.Elements.{All-cons, All-head, All-nil, All-tail}
-use Rattle.span_money.specs.Numbers.{negative_part, positive_part}
+use Rattle.std.proofs.lemmas.List.FromFn.{get_or-range_with_len, length-range_with_len}
+use Rattle.std.proofs.lemmas.List.Elements.{All-cons, All-nil}
 use Rattle.span_tables.specs.Holdings.{AreHeld}
 use Rattle.span_tables.specs.Net.{HeldContract}
 use Rattle.span_tables.specs.Tables.{AcceptedTables, commodity_id, inters_of}
 use Rattle.span_tables.specs.declared.limits.TheConstants.{MAX_COMMODITIES, MAX_HELD, MAX_NET, MAX_RATE, MAX_SUM, MAX_UNITS}
 use Rattle.span_tables.specs.declared.portfolios.Holding.{Holding}
 use Rattle.span_tables.specs.declared.records.MinimumMethod.TheVariants as method
-use Rattle.scan_risk.specs.Scenarios.{active_scenario, is_largest, paired_scenario, scenario_sum, scenario_sums}
+use Rattle.scan_risk.specs.Scenarios.{active_scenario, is_largest, paired_scenario, scenario_sums}
 use Rattle.span_tables.proofs.HeldBounds.{int_sum_size}
 use Rattle.scan_risk.proofs.ScanBounds.{sums_small}
 use Rattle.spread_stage.specs.Charges.{intra_charge}
@@ -26,8 +25,7 @@ use Rattle.inter_credit.specs.Requirement.{is_call, is_put, minimum_of, short_co
 use Rattle.inter_credit.specs.near.CommodityStates.{IsCommodityState}
 use Rattle.inter_credit.specs.declared.commodity_state.CommodityState.{CommodityState}
 use Rattle.inter_credit.specs.declared.option_value.TheConstants.{MAX_NET_VALUE}
-use Rattle.inter_credit.proofs.CreditBounds.{minimum_small, requirement_small}
-use Rattle.inter_credit.proofs.OpenLemmas.{loaded_state}
+use Rattle.inter_credit.proofs.CreditBounds.{minimum_small, requirement_small, each_state, parts_size}
 use Rattle.plan_ir.specs.Figures.{deltas_at, delivery_at, figures_of, held_at, inter_states, intras_at, loaded_states, minimum_at}
 use Rattle.plan_ir.specs.Figures.{net_value_at, numbers_of, scan_at, spots_at, tiers_at, total_to, value_to}
 use Rattle.plan_ir.specs.declared.figures.TheConstants.{MAX_REQUIREMENT}
@@ -38,16 +36,7 @@ use Rattle.reasons.specs.Reasons.{inters_shown_at, intras_shown_at, months_shown
 use Rattle.reasons.proofs.FigureLaws.{active_shown}
 use Rattle.reasons.proofs.SmallLaws.{AreSmallRests, IsSmallInter, IsSmallIntra, IsSmallMonth, IsSmallSpot, inters_small, intras_small}
 use Rattle.reasons.proofs.SmallLaws.{months_small, rests_are, spots_small}
-
--- the state of each index is a commodity state, also for an index without a commodity
-each_state : (states : List CommodityState) → All IsCommodityState states → (k : ℕ) → IsCommodityState (state_at states k)
-each_state [] all k = loaded_state (pos 0) 0 (omega arith) (omega arith)
-each_state (state ∷ states) all zero = All-head IsCommodityState state states all
-each_state (state ∷ states) all (suc k) = each_state states (All-tail IsCommodityState state states all) k
-
-parts_size : (z : ℤ) → nat_abs z ≡ positive_part z + negative_part z
-parts_size (pos n) = omega arith
-parts_size (negsuc n) = omega arith
+use Rattle.scan_risk.proofs.SumLemmas.{sixteen_sums}
 
 -- ---- scenarios
 
@@ -70,10 +59,6 @@ paired_if false false s = omega arith
 
 pub paired_few : (s : ℕ) → paired_scenario s ≤ s + 1
 paired_few s = paired_if (nat_lt 14 s) (s % 2 == 1) s
-
-pub sixteen : (held : List HeldContract) → length (scenario_sums held) ≡ 16
-unfolding scenario_sums
-sixteen held = length-map-range_with_len (scenario_sum held) 1 16
 
 -- ---- states
 
@@ -150,7 +135,7 @@ module _ (t : AcceptedTables) (holdings : List Holding) (ok : AreAccepted t hold
   active_is_few : (figures_of t holdings c).active ≤ 17
   active_is_few =
       let sums = scenario_sums (held_at t holdings c) in
-      omega (arith, active_shown t holdings c, active_few sums, sixteen (held_at t holdings c))
+      omega (arith, active_shown t holdings c, active_few sums, sixteen_sums (held_at t holdings c))
 
   pub figures_are_small : c < length t.commodities → All (λ z. nat_abs z < 10 ^ 64) (numbers_of (figures_of t holdings c))
   unfolding figures_of

@@ -24,7 +24,6 @@ use Rattle.spread_stage.specs.declared.months.MonthUnits.{MonthUnits}
 use Rattle.inter_credit.specs.Credits.{after_inter_spreads, inter_formed_both, inter_both_ways}
 use Rattle.inter_credit.specs.Credits.{state_at}
 use Rattle.inter_credit.specs.declared.commodity_state.CommodityState.{CommodityState}
-use Rattle.inter_credit.proofs.StateLemmas.{or_left, or_right}
 use Rattle.inter_credit.proofs.RestLaws.{length-inter_both_ways}
 use Rattle.inter_credit.proofs.WeightLaws.{weight-inter_both_ways}
 use Rattle.plan_ir.specs.Figures.{deltas_at, inter_states, state_of, loaded_states, scan_at, tiers_at}
@@ -33,6 +32,7 @@ use Rattle.reasons.specs.Reasons.{inters_shown_at, state_after_all, months_shown
 use Rattle.reasons.specs.Shown.{inter_in, inter_ways, inters_shown, ratio_in, weight_of}
 use Rattle.reasons.specs.declared.shown.ShownInter.{ShownInter}
 use Rattle.reasons.specs.declared.shown.ShownMonth.{ShownMonth}
+use Rattle.std.proofs.lemmas.Bool.{or_parts}
 
 pub net_shown : (t : AcceptedTables) (holdings : List Holding) (c : ℕ) → c < length t.commodities
     → (state_after_all t holdings c).net ≡ int_sum_by (λ m. m.delta) (months_shown_at t holdings c)
@@ -93,10 +93,10 @@ module _ (s : Inter) (f : SpreadsFormed) (c : ℕ) where
   none_behind leg [] same apart = refl
   none_behind leg (x ∷ legs) same apart =
       let alike : CommodityLeg → Bool = λ other. leg.commodity == other.commodity in
-      let other : (leg.commodity == x.commodity) ≡ false = or_left (alike x) (list_any alike legs) apart in
+      let other : (leg.commodity == x.commodity) ≡ false = (or_parts (alike x) (list_any alike legs) apart).0 in
       let passed : (x.commodity == c) ≡ false = grind (arith, nat_tests, other, same) in
       passed_if (x.commodity == c) x (filter is_leg legs) passed
-      ∙ none_behind leg legs same (or_right (alike x) (list_any alike legs) apart)
+      ∙ none_behind leg legs same (or_parts (alike x) (list_any alike legs) apart).1
 
   leg_if : (b : Bool) (leg : CommodityLeg) (legs : List CommodityLeg) → (leg.commodity == c) ≡ b
       → list_any (λ other. leg.commodity == other.commodity) legs ≡ false
@@ -119,8 +119,8 @@ module _ (s : Inter) (f : SpreadsFormed) (c : ℕ) where
   weight_legs (leg ∷ legs) apart =
       let alike : CommodityLeg → Bool = λ other. leg.commodity == other.commodity in
       let others = has_repeat (λ (a b : CommodityLeg). a.commodity == b.commodity) legs in
-      leg_if (leg.commodity == c) leg legs refl (or_left (list_any alike legs) others apart)
-      (weight_legs legs (or_right (list_any alike legs) others apart))
+      leg_if (leg.commodity == c) leg legs refl (or_parts (list_any alike legs) others apart).0
+      (weight_legs legs (or_parts (list_any alike legs) others apart).1)
 
 -- the weight after some spreads is the weight before them plus the weights shown for them
 weights_shown : (n c : ℕ) (spreads : List Inter) (states : List CommodityState) → c < length states → All (IsInter n) spreads

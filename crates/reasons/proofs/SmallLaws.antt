@@ -1,12 +1,11 @@
 -- The numbers in lines have at most 64 digits.
-use Rattle.std.proofs.Common.{◌≡◌, ℕ, zero, suc, ◌+◌, ◌*◌, ◌<◌, ◌≤◌, Bool, true, false, cond, List, [], ◌∷◌, length, get_or, refl}
+use Rattle.std.proofs.Common.{◌≡◌, ℕ, ◌+◌, ◌*◌, ◌<◌, ◌≤◌, Bool, true, false, cond, List, [], ◌∷◌, length, get_or, refl}
 use Rattle.std.proofs.Common.{sym, ap, ◌∙◌, arith, filter, nat_abs, subst}
-use Rattle.std.specs.Prelude.{All, None, Option, Some, ℤ, pos, negsuc, ◌==◌, find, not, option_map}
+use Rattle.std.specs.Prelude.{All, None, Option, Some, ◌==◌, find, not, option_map}
 use Rattle.std.proofs.Math.Nat.{mul-le-mul}
 use Rattle.std.proofs.lemmas.Bool.Decides.{nat_tests}
 use Rattle.std.proofs.lemmas.List.Elements.{All-append, All-cons, All-filter, All-head, All-map, All-nil, All-tail}
 use Rattle.std.proofs.lemmas.List.Sums.{sum_by-cons}
-use Rattle.span_money.specs.Numbers.{negative_part, positive_part}
 use Rattle.span_tables.specs.Accepted.{IsInter, IsIntra, IsSpot}
 use Rattle.span_tables.specs.Sides.{market_side, spreads_formed}
 use Rattle.span_tables.specs.declared.limits.TheConstants.{MAX_BASIS_POINTS, MAX_RATE, MAX_UNITS}
@@ -37,6 +36,8 @@ use Rattle.reasons.specs.declared.shown.ShownInter.{ShownInter}
 use Rattle.reasons.specs.declared.shown.ShownIntra.{ShownIntra}
 use Rattle.reasons.specs.declared.shown.ShownMonth.{ShownMonth}
 use Rattle.reasons.specs.declared.shown.ShownSpot.{ShownSpot}
+use Rattle.inter_credit.proofs.CreditBounds.{parts_size}
+use Rattle.inter_credit.proofs.StateLemmas.{rest_of_state}
 
 -- an item that is shown only if a number is more than 0 has P if it has P for such a number
 pub in_if : {A : Type 0} (P : A → Type 0) (b : Bool) (n : ℕ) (x : A) → (n == 0) ≡ b → (0 < n → P x) → All P (cond b [] (x ∷ []))
@@ -193,18 +194,9 @@ found_is P p xs x e all = found_has P p xs x e (λ k d lt passes. all k d lt)
 abbrev pub AreSmallRests : List CommodityState → Type 0
 AreSmallRests states = (k : ℕ) → nat_abs (state_at states k).rest ≤ MAX_UNITS
 
-parts_size : (z : ℤ) → nat_abs z ≡ positive_part z + negative_part z
-parts_size (pos n) = omega arith
-parts_size (negsuc n) = omega arith
-
 less_after : (bp : ℕ) (a b : CommodityState) → UsesState bp a b → nat_abs a.rest ≤ MAX_UNITS → nat_abs b.rest ≤ MAX_UNITS
 less_after bp a b uses small =
     omega (arith, parts_size a.rest, parts_size b.rest, uses.rest.long, uses.rest.short, small)
-
-rest_same : (states : List CommodityState) (k : ℕ) → rest_at states k ≡ (state_at states k).rest
-rest_same [] k = refl
-rest_same (state ∷ states) zero = refl
-rest_same (state ∷ states) (suc k) = rest_same states k
 
 -- the number of spreads that form in a direction fits each of the legs
 legs_fit : (s : Inter) (d : Direction) (states : List CommodityState) → IsInter (length states) s → AreSmallRests states
@@ -215,7 +207,7 @@ legs_fit s d states is small k leg lt =
     let x = get_or s.legs k leg in
     let fits : n * x.ratio ≤ leg_side d x states = room.room k leg lt in
     let part = part_on-le (market_side d x.side) (rest_at states x.commodity) in
-    let same = ap nat_abs (rest_same states x.commodity) in
+    let same = ap nat_abs (rest_of_state states x.commodity) in
     record { used = omega (arith, fits, part, same, small x.commodity); above = is.ratios_above k leg lt }
 
 one_way_small : (s : Inter) (d : Direction) (states : List CommodityState) → IsInter (length states) s → AreSmallRests states

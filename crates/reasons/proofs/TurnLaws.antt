@@ -4,9 +4,8 @@ use Rattle.std.proofs.Common.{◌≡◌, ℕ, ◌+◌, ◌*◌, ◌<◌, ◌≤�
 use Rattle.std.proofs.Common.{refl, sym, ap, ◌∙◌, append_assoc, arith, subst}
 use Rattle.std.specs.Prelude.{All, None, Option, Some, ◌==◌, bytes_eq, fold}
 use Rattle.std.specs.List.{AllByRecursion, enumerate_from}
-use Rattle.std.proofs.lemmas.Bool.Decides.{nat_tests}
 use Rattle.std.proofs.lemmas.List.{length-append, take_at}
-use Rattle.std.proofs.lemmas.List.Elements.{All-append, All-cons, All-nil}
+use Rattle.std.proofs.lemmas.List.Elements.{All-append, All-nil}
 use Rattle.std.proofs.lemmas.List.Sums.{fold_push}
 use Rattle.span_tables.specs.Laws.{IsRisingBy}
 use Rattle.span_tables.specs.Tables.{inter_spread, inters_of, intra_spread, intras_of, tables_of}
@@ -28,6 +27,7 @@ use Rattle.inter_credit.specs.declared.commodity_state.CommodityState.{Commodity
 use Rattle.reasons.specs.Shown.{inter_in, inter_ways, inters_shown, intra_in, intra_ways, intras_shown, ratio_in}
 use Rattle.reasons.specs.declared.shown.ShownInter.{ShownInter}
 use Rattle.reasons.specs.declared.shown.ShownIntra.{ShownIntra}
+use Rattle.reasons.proofs.SmallLaws.{in_if}
 
 -- ---- one after another
 
@@ -58,18 +58,12 @@ module _ {S A B : Type 0} (step : S → A → S) (ways : S → A → List B) whe
   pub in_turn : (state : S) (xs : List A) → turns state xs ≡ flat_map (turn state xs) (enumerate_from 0 xs)
   in_turn state xs = turns_behind state [] xs
 
--- ---- more than 0
-
-some_if : {A : Type 0} (P : A → Type 0) (b : Bool) (n : ℕ) (x : A) → (n == 0) ≡ b → (0 < n → P x) → All P (cond b [] (x ∷ []))
-some_if P true n x e is = All-nil P
-some_if P false n x e is = All-cons P x [] (is (grind (arith, nat_tests, e))) (All-nil P)
-
 -- ---- between months
 
 module _ (s : Intra) where
   intra_some_in : (d : Direction) (n : ℕ) → All (λ x. 0 < x.formed) (intra_in s d n)
   intra_some_in d n =
-      some_if (λ (x : ShownIntra). 0 < x.formed) (n == 0) n
+      in_if (λ (x : ShownIntra). 0 < x.formed) (n == 0) n
       (record { priority = s.priority; direction = d; formed = n; rate = s.rate }) refl (λ some. some)
 
   intra_some_ways : (f : SpreadsFormed) → All (λ x. 0 < x.formed) (intra_ways s f)
@@ -100,7 +94,7 @@ intras_in_turn spreads t = intras_turns spreads t ∙ in_turn spread_both_ways i
 module _ (s : Inter) where
   inter_some_in : (ratio : ℕ) (d : Direction) (n : ℕ) → All (λ x. 0 < x.formed) (inter_in s ratio d n)
   inter_some_in ratio d n =
-      some_if (λ (x : ShownInter). 0 < x.formed) (n == 0) n
+      in_if (λ (x : ShownInter). 0 < x.formed) (n == 0) n
       (record { priority = s.priority; direction = d; formed = n; used = n * ratio; basis_points = s.basis_points }) refl
       (λ some. some)
 
@@ -155,10 +149,6 @@ rising_behind {A = A} key p (x ∷ xs) ys same above up = (
   not_lower : (zs : List A) → AllByRecursion (λ z. p ≤ key z) zs → AllByRecursion (λ z. key x ≤ key z) zs
   not_lower [] all = tt
   not_lower (z ∷ zs) all = (omega (arith, same.0, all.0), not_lower zs all.1)
-
-as_high_as : {A : Type 0} (key : A → ℕ) (p : ℕ) (xs : List A) → AllByRecursion (λ x. key x ≡ p) xs → AllByRecursion (λ x. p ≤ key x) xs
-as_high_as key p [] all = tt
-as_high_as key p (x ∷ xs) all = (omega (arith, all.0), as_high_as key p xs all.1)
 
 one_if : {A : Type 0} (P : A → Type 0) (b : Bool) (x : A) → P x → AllByRecursion P (cond b [] (x ∷ []))
 one_if P true x is = tt

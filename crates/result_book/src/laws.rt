@@ -1,5 +1,5 @@
 //! Lemmas about books. Each is the contract of a function with an empty body.
-ghost use Rattle.std.specs.Prelude.{◌≡◌, ◌<◌, ◌≤◌, ◌↔◌, ◌⊎◌, ℕ, List, None, Some, Contains, map};
+ghost use Rattle.std.specs.Prelude.{◌≡◌, ◌<◌, ◌≤◌, ◌↔◌, ◌⊎◌, ℕ, List, Some, Contains, map};
 ghost use Rattle.result_book.specs.Books.{BookView, account_of_row, put_fault, rows_of};
 ghost use Rattle.result_book.specs.declared.books.BookFault.TheVariants as fault;
 

@@ -49,7 +49,7 @@ sum_here : (held : List HeldContract) (k : ℕ) → k < 16 → get_or (scenario_
 unfolding scenario_sums
 sum_here held k lt = get_or-map-range_with_len (scenario_sum held) 1 16 k (k + 1) (pos 0) lt (omega arith)
 
-sixteen_sums : (held : List HeldContract) → length (scenario_sums held) ≡ 16
+pub sixteen_sums : (held : List HeldContract) → length (scenario_sums held) ≡ 16
 unfolding scenario_sums
 sixteen_sums held = length-map-range_with_len (scenario_sum held) 1 16
 

@@ -29,7 +29,7 @@ impl<R: Read> Model for MarkedReader<R> {
 impl<R: Read> MarkedReader<R> {
     ghost use Rattle.sources.specs.Readings.{HasFailed};
 
-    /// Returns a reader of which nothing was read.
+    /// Returns a reader from which nothing was read yet.
     pub fn new(reader: R) -> MarkedReader<R>
         ensures bytes { result.bytes ≡ R.remaining reader }
         ensures left { result.left ≡ 2 ^ 64 - 1 }

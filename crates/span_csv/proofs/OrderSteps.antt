@@ -130,11 +130,7 @@ pub next_refused : (orders : List OrderRecord) (r : Fields) (e : PositionFault)
     → MatchBool (is_memory (as_order_fault e)) ⊤ (next_order orders r ≡ Err (as_order_fault e))
 unfolding next_order
 next_refused orders r fault.OutOfMemory h = tt
-next_refused orders r (fault.FieldCount at) h = rw h refl
-next_refused orders r (fault.BadName at) h = rw h refl
-next_refused orders r (fault.BadNumber at) h = rw h refl
-next_refused orders r (fault.OutOfRange at) h = rw h refl
-next_refused orders r (fault.TooManyAccounts at) h = rw h refl
+next_refused orders r e h = rw h refl
 
 module _ (keys keys' accounts : List (List ℕ)) (earlier : List NumberedPosition) (p : NumberedPosition) (r : Fields)
     (was : AreNumbered keys earlier) (each : length accounts ≡ length keys) (now : AreNumbered keys' (earlier ++ p ∷ []))

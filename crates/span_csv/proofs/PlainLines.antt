@@ -1,5 +1,5 @@
 -- The records of bytes of lines: each comma ends a field, and each line feed a record.
-use Rattle.std.proofs.Common.{◌≡◌, ◌∙◌, refl, sym, ap, subst, inl, inr, arith, ℕ, ◌+◌, ◌<◌, Bool, true, false, true≢false, add-one}
+use Rattle.std.proofs.Common.{◌≡◌, ◌∙◌, refl, sym, ap, subst, inl, inr, arith, ℕ, ◌+◌, ◌<◌, Bool, true, false, true≢false, add-one, Decides}
 use Rattle.std.proofs.Common.{◌&&◌, ◌==◌, ℤ, List, [], ◌∷◌, ◌++◌, length, take, drop, get_or, Some, None, append_assoc}
 use Rattle.std.specs.Char.{is_ascii_digit}
 use Rattle.std.specs.List.{AllByRecursion, list_all, list_any, starts_with}
@@ -15,11 +15,12 @@ use Rattle.memchr.specs.Find.{IsFirstByte, is_byte2}
 use Rattle.csv.specs.Reading.{is_bom, strip_bom}
 use Rattle.csv.specs.declared.parser.State.TheVariants as state
 use Rattle.span_money.specs.Numbers.{are_digits, whole_number, without_minus}
-use Rattle.span_tables.specs.Names.{is_name, is_name_byte, name_of}
+use Rattle.span_tables.specs.Names.{is_name, is_name_byte}
 use Rattle.span_csv.specs.Records.{Fields}
 use Rattle.span_csv.specs.near.PlainPositions.{IsPlainLine, IsPositionIn}
 use Rattle.span_csv.specs.near.Rows.{rows, rows_in, AreLines}
 use Rattle.span_csv.proofs.CutPlaces.{found_any}
+use Rattle.std.proofs.lemmas.Bool.Decides.{Decides-eqb, same_from_decides}
 
 -- ---- bytes that only extend the current field
 
@@ -220,14 +221,6 @@ behind_comma bytes field begins short comma =
     ∙ ap (λ rest. field ++ rest)
     (drop-cons bytes (length field) 0 short ∙ rw (comma, sym (add-one (length field))) refl)
 
--- the name of a text is a name
-pub name_is : (text name : List ℕ) → Some name ≡ name_of text → is_name name ≡ true
-name_is text name is =
-    elim (cases_Bool (is_name text)) [
-      | inl known ↦ let same : name ≡ text = let e = rw known at is in cc in rw same known
-      | inr none ↦ let e = rw none at is in cc
-    ]
-
 -- a name before a comma is the first field of a line
 named_line : (name rest : List ℕ) → is_name name ≡ true
     → rows_in (name ++ 44 ∷ rest) ≡ rows state.StartField (name ∷ []) [] rest
@@ -251,25 +244,12 @@ plain_line account contract quantity rest bytes named line = record {
   small = line.small;
 }
 
--- the bytes after a plain line are bytes of lines
-pub lines_behind_it : (account contract : List ℕ) (quantity : ℤ) (rest bytes : List ℕ) → AreLines bytes
-    → IsPlainLine account contract quantity rest bytes → AreLines rest
-lines_behind_it account contract quantity rest bytes lines line =
-    let first = (lines_parted account (44 ∷ (contract ++ 44 ∷ (line.text ++ 10 ∷ rest))) (subst AreLines line.bytes_are lines)).1 in
-    let second = (lines_parted contract (44 ∷ (line.text ++ 10 ∷ rest)) first).1 in
-    (lines_parted line.text (10 ∷ rest) second).1
-
 -- ---- the byte order mark
 
 turned : (a b : ℕ) → (a == b) ≡ (b == a)
 turned a b =
-    elim (cases_Bool (a == b)) [
-      | inl same ↦ subst (λ x. (a == x) ≡ (x == a)) (eqb-true a b same) refl
-      | inr apart ↦ elim (cases_Bool (b == a)) [
-        | inl same ↦ sym (subst (λ x. (b == x) ≡ (x == b)) (eqb-true b a same) refl)
-        | inr other ↦ apart ∙ sym other
-      ]
-    ]
+    let other : Decides (b == a) (a ≡ b) = ((λ e. sym ((Decides-eqb b a).0 e)), (λ e. (Decides-eqb b a).1 (sym e))) in
+    same_from_decides _ _ (Decides-eqb a b) other
 
 same_mark : (a b c : ℕ) → ((239 == a) && ((187 == b) && ((191 == c) && true))) ≡ is_bom a b c
 same_mark a b c =

@@ -10,7 +10,7 @@ use Rattle.std.proofs.lemmas.Bool.Decides.{nat_tests}
 use Rattle.std.proofs.lemmas.List.{length-map, length-drop, length-take-le}
 use Rattle.std.proofs.lemmas.List.Folds.{list_all-map}
 use Rattle.std.proofs.lemmas.Option.{slice_get_within}
-use Rattle.span_money.specs.Numbers.{whole_number, decimal_number, is_month, positive_part}
+use Rattle.span_money.specs.Numbers.{whole_number, decimal_number, is_month}
 use Rattle.span_tables.specs.Names.{is_name}
 use Rattle.span_tables.specs.near.Limits.{lies_within, in_range, is_tier_number, is_ratio}
 use Rattle.span_tables.specs.Tables.{most_option_value}
@@ -23,7 +23,7 @@ use Rattle.span_tables.specs.declared.records.InterLeg.{InterLeg}
 use Rattle.span_tables.proofs.Ranges.{is_contract}
 use Rattle.span_csv.specs.near.Grammar.{FitsKind, HasLegs, leg_at}
 use Rattle.span_csv.specs.Records.{Fields, all_have, has_word_form, is_in_range, exactly, with_legs, forms_of}
-use Rattle.span_csv.specs.Records.{a_version, set_forms, commodity_forms, contract_front, an_array_value, an_option_value}
+use Rattle.span_csv.specs.Records.{set_forms, commodity_forms, contract_front, an_array_value, an_option_value}
 use Rattle.span_csv.specs.Records.{tier_forms, intra_front, intra_leg_forms, spot_forms, inter_front, inter_leg_forms}
 use Rattle.span_csv.specs.Records.{text_at, count_at, ratio_at, contract_record, extras_place, intra_leg, inter_leg}
 use Rattle.span_csv.specs.Records.{legs_of, product_at, record_of_kind}
@@ -69,12 +69,6 @@ month_most n e = grind (arith, nat_tests)
 
 month_small : (n : ℕ) → is_month n ≡ true → n < 2 ^ 32
 month_small n e = omega (arith, month_most n e)
-
--- a version fits a byte
-pub version_small : (text : List ℕ) → is_in_range a_version text ≡ true → positive_part (unwrap_or (whole_number text) (pos 0)) < 2 ^ 8
-version_small text h =
-    let version = positive_part (unwrap_or (whole_number text) (pos 0)) in
-    omega (arith, most 1 MAX_PROFILE version (count_within 1 MAX_PROFILE (whole_number text) h))
 
 -- exactly these forms, one for each field
 pub exact : (forms found : List FieldForm) (n : ℕ) → exactly forms n ≡ Some found → (n ≡ length forms) × (forms ≡ found)

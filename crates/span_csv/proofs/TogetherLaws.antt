@@ -92,11 +92,6 @@ fewer_in_front a b few =
     let more = never_fewer (accounts_of b) (accounts_of a) in
     omega (arith, same, more, few)
 
--- a known name stays known when a list of names is added
-among_all : (xs known : List (List ℕ)) (name : List ℕ) → is_among known name ≡ true → is_among (with_names known xs) name ≡ true
-among_all [] known name there = there
-among_all (x ∷ xs) known name there = among_all xs (with_name known x) name (among_more known x name there)
-
 -- ---- the records of the whole file
 
 full : (b : Bool) (n : ℕ) → (not b && (n == MAX_ACCOUNTS)) ≡ true → (b ≡ false) × (n ≡ MAX_ACCOUNTS)

@@ -1,5 +1,5 @@
 -- The faults of all records of a file, reported one record after another.
-use Rattle.std.proofs.Common.{◌≡◌, ◌∙◌, refl, sym, ap, subst, arith, ℕ, ◌+◌, ◌<◌, List, [], ◌∷◌, ◌++◌, length, Option, Some, None}
+use Rattle.std.proofs.Common.{◌≡◌, ◌∙◌, sym, ap, subst, arith, ℕ, ◌+◌, ◌<◌, List, [], ◌∷◌, ◌++◌, length, Option, Some, None}
 use Rattle.std.proofs.Common.{Bool, Result, Ok, Err}
 use Rattle.std.specs.Prelude.{option_map}
 use Rattle.std.specs.Option.{option_to_list}
@@ -61,8 +61,3 @@ module _ {F : Type 0} {fault_of : List Fields → Fields → Option (ℕ → F)}
   -- if no record is left, all records were read
   pub told_whole : before ≡ [] → all ≡ s.earlier
   told_whole end = sym s.whole ∙ ap (λ zs. s.earlier ++ zs) end ∙ append-nil s.earlier
-
--- before the first record no fault is reported
-pub told_start : {F : Type 0} (fault_of : List Fields → Fields → Option (ℕ → F)) (Kept : List Fields → Type 0) (all : List Fields)
-    → Kept [] → IsTold fault_of Kept all [] 0 all
-told_start fault_of Kept all kept = record { earlier = []; whole = refl; count = refl; kept = kept; told = refl }

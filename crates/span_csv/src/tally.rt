@@ -1,5 +1,5 @@
 //! The profile of a file, and the number of records read of each kind that has a limit.
-ghost use Rattle.std.specs.Prelude.{◌≡◌, ◌+◌, ◌<◌, ◌^◌, List, OnOk, [], ◌∷◌, ℕ};
+ghost use Rattle.std.specs.Prelude.{◌≡◌, ◌+◌, ◌<◌, ◌^◌, OnOk, [], ◌∷◌};
 ghost use Rattle.span_csv.specs.near.Checks.{CountsOne, count_in, limit_of};
 ghost use Rattle.span_csv.specs.near.Grammar.{FitsKind};
 ghost use Rattle.span_csv.specs.ParamFaults.{profile_of};

@@ -1,6 +1,6 @@
 //! Pieces of a position file without a fault, whose records can be numbered concurrently.
 ghost use Rattle.std.specs.Prelude.{◌≡◌, ◌<◌, ◌≤◌, ℕ, All, IfOk, IfSome, List, None, OnOk, length, map};
-ghost use Rattle.span_csv.specs.near.Pieces.{place_among, renumbered, with_names, AreOfAccounts, AreTogether, HasAccounts, StandFor};
+ghost use Rattle.span_csv.specs.near.Pieces.{place_among, renumbered, with_names, AreTogether, HasAccounts, StandFor};
 ghost use Rattle.span_tables.specs.near.Positions.{named_positions, AreNumbered};
 ghost use Rattle.span_tables.specs.declared.limits.TheConstants.{MAX_ACCOUNTS};
 

@@ -12,17 +12,14 @@ use Rattle.std.proofs.Math.Seq.{drop-append_seam}
 use Rattle.span_money.specs.Numbers.{are_digits, digits_value, decimal_number, fraction, has_minus, unsigned_decimal, with_sign}
 use Rattle.span_money.specs.Numbers.{without_minus}
 use Rattle.span_money.specs.Forms.{IsDecimal}
-
-and_split : (x y : Bool) → (x && y) ≡ true → (x ≡ true) × (y ≡ true)
-and_split true y h = (refl, h)
-and_split false y h = absurd (cc)
+use Rattle.std.proofs.lemmas.Bool.{and_parts}
 
 -- the leading digits of digits followed by a text that begins with no digit
 pub stops : (front back : List ℕ) → list_all is_ascii_digit front ≡ true → take_while is_ascii_digit back ≡ []
     → take_while is_ascii_digit (front ++ back) ≡ front
 stops [] back h e = e
 stops (x ∷ xs) back h e =
-    let both = and_split (is_ascii_digit x) (list_all is_ascii_digit xs) h in
+    let both = and_parts (is_ascii_digit x) (list_all is_ascii_digit xs) h in
     take_while-cons is_ascii_digit x (xs ++ back)
     ∙ ap (λ b. cond b (x ∷ take_while is_ascii_digit (xs ++ back)) []) both.0
     ∙ ap (λ l. x ∷ l) (stops xs back both.1 e)
@@ -54,7 +51,7 @@ pub plain : (front back : List ℕ) → 0 < length front → list_all is_ascii_d
     → (has_minus (front ++ back) ≡ false) × (without_minus (front ++ back) ≡ front ++ back)
 plain [] back some all = absurd (omega arith)
 plain (x ∷ xs) back some all =
-    let digit : is_ascii_digit x ≡ true = (and_split (is_ascii_digit x) (list_all is_ascii_digit xs) all).0 in
+    let digit : is_ascii_digit x ≡ true = (and_parts (is_ascii_digit x) (list_all is_ascii_digit xs) all).0 in
     let off : (x == 45) ≡ false = grind (arith, nat_tests) in
     (off, ap (λ b. cond b (xs ++ back) (x ∷ (xs ++ back))) off)
 

@@ -6,19 +6,16 @@ use Rattle.std.proofs.lemmas.Bool.Decides.{nat_tests}
 use Rattle.std.proofs.lemmas.List.{append_assoc, append-nil}
 use Rattle.span_money.specs.declared.exact.TheConstants.{POWERS}
 use Rattle.span_money.specs.ExactDecimals.{fraction_digits}
+use Rattle.std.proofs.lemmas.Bool.{and_parts}
 
 abbrev are_powers : ℕ → Bool
 are_powers zero = true
 are_powers (suc k) = (get_or POWERS k 0 == 10 ^ k) && are_powers k
 
-both : (x y : Bool) → (x && y) ≡ true → (x ≡ true) × (y ≡ true)
-both true y h = (refl, h)
-both false y h = absurd (cc)
-
 powers_below : (n k : ℕ) → are_powers n ≡ true → k < n → get_or POWERS k 0 ≡ 10 ^ k
 powers_below zero k t h = absurd (omega arith)
 powers_below (suc n) k t h =
-    let parts = both (get_or POWERS n 0 == 10 ^ n) (are_powers n) t in
+    let parts = and_parts (get_or POWERS n 0 == 10 ^ n) (are_powers n) t in
     elim (eq-zero-or-pos (n - k)) [
       | inl z ↦ let e : k ≡ n = omega arith in rw e (grind (arith, nat_tests))
       | inr more ↦ powers_below n k parts.1 (omega arith)

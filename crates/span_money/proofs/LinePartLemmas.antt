@@ -41,3 +41,8 @@ numbered_more f old n =
       one_more =
           sym (map-id (range_with_len 0 (n + 1))) ∙ map-range_with_len_more (λ k. k) 0 n n (omega arith)
           ∙ ap (λ ns. ns ++ n ∷ []) (map-id (range_with_len 0 n))
+
+-- the text of the lines of a list of items is the concatenation of the texts of each item's lines
+pub texts_of : {A : Type 0} (f : A → List Line) (xs : List A) → flat_map line (flat_map f xs) ≡ flat_map (λ x. flat_map line (f x)) xs
+texts_of f [] = refl
+texts_of f (x ∷ xs) = flat_map-append line (f x) (flat_map f xs) ∙ ap (λ t. flat_map line (f x) ++ t) (texts_of f xs)

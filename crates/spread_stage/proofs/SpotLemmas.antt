@@ -1,4 +1,4 @@
--- The charges of spot months, of which those that are not held are left out.
+-- The charges of spot months. A spot month that is not held is left out.
 use Rattle.std.proofs.Common.{◌≡◌, ◌≢◌, ℕ, ◌+◌, ◌-◌, ◌*◌, ◌%◌, ◌<◌, ◌≤◌, List, sym, ap, ◌∙◌}
 use Rattle.std.proofs.Common.{subst, arith, get_or, inl, inr, length, nat_abs, set, take, bit_or}
 use Rattle.std.specs.Int.{bit_at}

@@ -73,11 +73,6 @@ read_params_tables params records is = rw (is) (by_check (checked records)) wher
   by_check (Ok tables) = refl
   by_check (Err e) = refl
 
--- a file that cannot be read is not accepted
-pub unread_params_tables : (params : List ℕ) (e : ParamFault) → params_of params ≡ Err e → result_ok (accepted_of params) ≡ None
-unfolding accepted_of
-unread_params_tables params e is = rw (is) refl
-
 -- records that break a rule are not accepted
 pub broken_tables : (records : List Record) (faults : List SpanFault) (size : ℕ) (is_empty : Bool)
     → faults ≡ broken_rules (Some records) → size ≡ length faults → is_empty ≡ (size == 0) → is_empty ≡ false

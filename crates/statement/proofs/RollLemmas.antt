@@ -35,17 +35,7 @@ refused_too : {A B : Type 0} (answer : Result A SpanFault) (other : Result B Spa
 refused_too answer other k p ok op fault.Memory faults keeps publishes h = tt
 refused_too answer other k p ok op (fault.Book f) faults keeps publishes h = (h.0, keeps h.1)
 refused_too answer other k p ok op fault.Shelf faults keeps publishes h = publishes h
-refused_too answer other k p ok op fault.Workers faults keeps publishes h = (h.0, faults _ h.1)
-refused_too answer other k p ok op (fault.Params f) faults keeps publishes h = (h.0, faults _ h.1)
-refused_too answer other k p ok op (fault.Check f) faults keeps publishes h = (h.0, faults _ h.1)
-refused_too answer other k p ok op (fault.Positions f) faults keeps publishes h = (h.0, faults _ h.1)
-refused_too answer other k p ok op (fault.Bind f) faults keeps publishes h = (h.0, faults _ h.1)
-refused_too answer other k p ok op (fault.Orders f) faults keeps publishes h = (h.0, faults _ h.1)
-refused_too answer other k p ok op (fault.BindOrders f) faults keeps publishes h = (h.0, faults _ h.1)
-refused_too answer other k p ok op (fault.NextParams f) faults keeps publishes h = (h.0, faults _ h.1)
-refused_too answer other k p ok op (fault.NextCheck f) faults keeps publishes h = (h.0, faults _ h.1)
-refused_too answer other k p ok op (fault.NextBind f) faults keeps publishes h = (h.0, faults _ h.1)
-refused_too answer other k p ok op (fault.UnknownAccount account) faults keeps publishes h = (h.0, faults _ h.1)
+refused_too answer other k p ok op e faults keeps publishes h = (h.0, faults _ h.1)
 
 -- a fault of two files is an error of the answer that has it
 refused_by_own : {A : Type 0} (answer : Result A SpanFault) (may_keep may_publish : Bool) (e : SpanFault)

@@ -31,16 +31,7 @@ each_of_files P params check positions bind (fault.Params f) is = params f
 each_of_files P params check positions bind (fault.Check f) is = check f
 each_of_files P params check positions bind (fault.Positions f) is = positions f
 each_of_files P params check positions bind (fault.Bind f) is = bind f
-each_of_files P params check positions bind (fault.Orders f) is = absurd (true≢false (sym is))
-each_of_files P params check positions bind (fault.BindOrders f) is = absurd (true≢false (sym is))
-each_of_files P params check positions bind (fault.NextParams f) is = absurd (true≢false (sym is))
-each_of_files P params check positions bind (fault.NextCheck f) is = absurd (true≢false (sym is))
-each_of_files P params check positions bind (fault.NextBind f) is = absurd (true≢false (sym is))
-each_of_files P params check positions bind (fault.UnknownAccount account) is = absurd (true≢false (sym is))
-each_of_files P params check positions bind fault.Workers is = absurd (true≢false (sym is))
-each_of_files P params check positions bind (fault.Book f) is = absurd (true≢false (sym is))
-each_of_files P params check positions bind fault.Shelf is = absurd (true≢false (sym is))
-each_of_files P params check positions bind fault.Memory is = absurd (true≢false (sym is))
+each_of_files P params check positions bind e is = absurd (true≢false (sym is))
 
 -- a sequence of two steps has only faults of two files if both steps have only such faults
 and_then_of_files : {A B F : Type 0} (named : F → SpanFault) (r : Result A F) (next : A → Result B SpanFault) (e : SpanFault)

@@ -1,3 +1,4 @@
+pub mod AcceptedFiles
 pub mod FaultLemmas
 pub mod FrontLemmas
 pub mod ProfileLemmas

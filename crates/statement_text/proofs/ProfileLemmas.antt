@@ -1,7 +1,7 @@
 -- Under profile 1 no contract of a file has an option value, and no holding has a value.
-use Rattle.std.proofs.Common.{◌≡◌, ◌∙◌, ℕ, zero, suc, ◌+◌, Bool, true, false, cond, List, [], ◌∷◌, length, Option, Some, None}
-use Rattle.std.proofs.Common.{Result, Ok, Err, IfSome, refl, sym, ap, subst, arith, filter, option_map, slice_get}
-use Rattle.std.specs.Prelude.{All, ℤ, pos, ◌*ℤ◌, bytes_eq}
+use Rattle.std.proofs.Common.{◌≡◌, ◌∙◌, ℕ, zero, suc, Bool, true, false, cond, List, [], ◌∷◌, length, Option, Some, None}
+use Rattle.std.proofs.Common.{Ok, IfSome, refl, sym, ap, subst, arith, filter, option_map, slice_get}
+use Rattle.std.specs.Prelude.{All, ℤ, pos, ◌*ℤ◌}
 use Rattle.std.specs.List.{AllByRecursion, cons_option, range_with_len}
 use Rattle.std.proofs.Math.IntN.{*ℤ-zero}
 use Rattle.std.proofs.lemmas.Int.{ints}
@@ -9,9 +9,7 @@ use Rattle.inter_credit.specs.OptionValue.{net_value_of, position_value}
 use Rattle.plan_ir.specs.Figures.{net_value_at, value_to}
 use Rattle.span_money.specs.Numbers.{int_sum_by}
 use Rattle.span_csv.specs.ParamFaults.{params_of}
-use Rattle.span_csv.specs.declared.faults.ParamFault.{ParamFault}
 use Rattle.span_csv.proofs.ProfileLaws.{params_values}
-use Rattle.span_tables.proofs.FaultLaws.{ok_parts}
 use Rattle.span_tables.proofs.SumLaws.{int_sum_by-cons}
 use Rattle.span_tables.specs.Net.{HeldContract, held_contracts, held_of}
 use Rattle.span_tables.specs.Profiles.{facts_of}
@@ -20,10 +18,8 @@ use Rattle.span_tables.specs.Tables.{AcceptedTables, profile_in, tables_of}
 use Rattle.span_tables.specs.declared.portfolios.Holding.{Holding}
 use Rattle.span_tables.specs.declared.records.Contract.{Contract}
 use Rattle.span_tables.specs.declared.records.Record.{Record}
-use Rattle.param_check.specs.CheckFaults.{check_fault, checked}
-use Rattle.param_check.specs.declared.faults.CheckFault.{CheckFault}
-use Rattle.statement_text.specs.Statement.{accepted_of, and_then}
-use Rattle.statement_text.specs.declared.faults.SpanFault.TheVariants as fault
+use Rattle.statement_text.specs.Statement.{accepted_of}
+use Rattle.statement_text.proofs.AcceptedFiles.{accepted_are}
 
 -- for records that are read
 pub read_values : (params : List ℕ) (records : List Record) → params_of params ≡ Ok records → profile_in records ≡ 1
@@ -31,34 +27,14 @@ pub read_values : (params : List ℕ) (records : List Record) → params_of para
 read_values params records read one =
     params_values params records read (subst (λ n. (facts_of n).options_have_value ≡ false) (sym one) refl)
 
--- accepted tables are the tables of the records
-checked_tables : (records : List Record) (tables : AcceptedTables) → checked records ≡ Ok tables → tables_of records ≡ tables
-unfolding checked
-checked_tables records tables e = (ok_parts (check_fault records) (tables_of records) tables e).1
-
-abbrev passed : AcceptedTables → Result AcceptedTables CheckFault
-passed t = Ok t
-
-of_checked : (r : Result AcceptedTables CheckFault) (tables : AcceptedTables)
-    → and_then fault.Check r (λ t. Ok t) ≡ Ok tables → r ≡ Ok tables
-of_checked (Ok t) tables e = let same : t ≡ tables = cc in ap passed same
-of_checked (Err f) tables e = cc
-
-of_records : (r : Result (List Record) ParamFault) (tables : AcceptedTables)
-    → and_then fault.Params r (λ records. and_then fault.Check (checked records) (λ t. Ok t)) ≡ Ok tables
-    → (records : List Record) × ((r ≡ Ok records) × (checked records ≡ Ok tables))
-of_records (Ok records) tables e = (records, (refl, of_checked (checked records) tables e))
-of_records (Err f) tables e = cc
-
 -- for accepted tables
 pub accepted_values : (params : List ℕ) (tables : AcceptedTables) → accepted_of params ≡ Ok tables → tables.profile ≡ 1
     → All (λ x. x.extras.option_value ≡ 0) tables.contracts
-unfolding accepted_of tables_of
+unfolding tables_of
 accepted_values params tables accepted one =
-    let found = of_records (params_of params) tables accepted in
-    let same = checked_tables found.0 tables found.1.1 in
-    subst (λ (t : AcceptedTables). All (λ x. x.extras.option_value ≡ 0) t.contracts) same
-    (read_values params found.0 found.1.0 (subst (λ (t : AcceptedTables). t.profile ≡ 1) (sym same) one))
+    let are = accepted_are params tables accepted in
+    subst (λ (t : AcceptedTables). All (λ x. x.extras.option_value ≡ 0) t.contracts) are.3
+    (read_values params are.0 are.1 (subst (λ (t : AcceptedTables). t.profile ≡ 1) (sym are.3) one))
 
 -- ---- holdings
 

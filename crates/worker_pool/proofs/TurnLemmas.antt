@@ -1,6 +1,6 @@
 -- How a result changes the board that receives it.
 use Rattle.std.specs.Prelude.{IfSome, IsSome, MatchOption, OnErr, OnOk, Err, Ok, None, Option, Result, Some, is_some}
-use Rattle.std.proofs.Common.{◌≡◌, ℕ, false, true, [], ◌∷◌, ◌++◌, sym, ap, ◌∙◌}
+use Rattle.std.proofs.Common.{◌≡◌, ℕ, true, [], ◌∷◌, ◌++◌, sym, ap, ◌∙◌}
 use Rattle.std.proofs.Math.Bool.{or-false}
 use Rattle.std.proofs.lemmas.Bool.{false≢true}
 use Rattle.step_scheduler.specs.Boards.{BoardView}

@@ -1,5 +1,5 @@
 -- The keys that no two records of a kind may share.
-use Rattle.std.specs.Prelude.{ℕ, Bool, true, false, not, ◌&&◌, ◌==◌, List, Option, Some, None, bytes_eq}
+use Rattle.std.specs.Prelude.{ℕ, Bool, false, not, ◌&&◌, ◌==◌, List, Option, Some, None}
 use Rattle.std.specs.List.{list_any}
 use Rattle.span_tables.specs.Rules.{is_and, as_intra, repeats_commodity, repeats_contract, repeats_tier, repeats_priority}
 use Rattle.span_tables.specs.Rules.{repeats_spot}

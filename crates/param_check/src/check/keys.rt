@@ -1,5 +1,5 @@
 //! Keys that no two records of a kind may share.
-ghost use Rattle.std.specs.Prelude.{◌≡◌, ◌++◌, ◌||◌, false, option_to_list, IfOk, OnOk};
+ghost use Rattle.std.specs.Prelude.{◌≡◌, ◌||◌, false, IfOk, OnOk};
 ghost use Rattle.param_check.specs.near.Keys.{has_key, is_key_among, is_same, key_of};
 
 use indexmap::IndexSet;

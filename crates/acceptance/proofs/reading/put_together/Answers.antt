@@ -1,4 +1,4 @@
-use Rattle.std.proofs.Common.{rules, ◌≡◌, ◌∙◌, Ok, ap, map, sym}
+use Rattle.std.proofs.Common.{rules, ◌∙◌, Ok, ap, map, sym}
 use Rattle.std.proofs.lemmas.List.Folds.{flat_map-map}
 use mathlib.Core.List.{map-map}
 use Rattle.span_csv.specs.Records.{records_of}

@@ -3,14 +3,13 @@ use Rattle.std.proofs.lemmas.List.{append-nil}
 use Rattle.std.proofs.lemmas.Grind.{flat_map-append}
 use Rattle.std.specs.Prelude.{flat_map}
 use Rattle.std.specs.List.{range_with_len}
-use Rattle.span_money.proofs.LinePartLemmas.{numbered_more}
-use Rattle.span_money.specs.LineFields.{Line, line}
+use Rattle.span_money.proofs.LinePartLemmas.{numbered_more, texts_of}
+use Rattle.span_money.specs.LineFields.{line}
 use Rattle.span_tables.specs.Net.{AccountHoldings}
 use Rattle.span_tables.specs.Tables.{AcceptedTables}
 use Rattle.plan_ir.specs.Figures.{option_value_of}
 use Rattle.statement_text.specs.Statement.{total_line, total_numbers, total_of}
 use Rattle.explanation.specs.Explanation.{account_text, commodity_lines}
-use Rattle.explanation.proofs.StatementLaws.{texts_of}
 use Rattle.explanation.proofs.accounts.push_account.Goals as goal
 
 -- the lines of an account, after its total is written

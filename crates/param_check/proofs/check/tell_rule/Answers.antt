@@ -1,4 +1,4 @@
-use Rattle.std.proofs.Common.{◌≡◌, ◌+◌, Bool, true, false, [], ◌∷◌, ◌++◌, Some, None, ap, arith, subst, sym, take, ◌∙◌}
+use Rattle.std.proofs.Common.{◌+◌, Bool, true, false, [], ◌∷◌, ◌++◌, Some, None, ap, arith, subst, sym, take, ◌∙◌}
 use Rattle.std.specs.Prelude.{if◌then◌else◌}
 use Rattle.std.proofs.lemmas.List.{append-nil, take_more}
 use Rattle.param_check.specs.near.NamedRules.{IsSeen, breaks_of, fault_of, rule_fault}

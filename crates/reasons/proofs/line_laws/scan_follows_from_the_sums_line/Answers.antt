@@ -12,11 +12,12 @@ use Rattle.plan_ir.specs.Figures.{held_at}
 use Rattle.reasons.specs.Laws.{AreAccepted}
 use Rattle.reasons.specs.Lines.{number_at, sums_by_lines}
 use Rattle.reasons.specs.Reasons.{reasons_of}
-use Rattle.reasons.proofs.AcceptedLaws.{active_few, paired_few, sixteen, sums_are_small}
+use Rattle.reasons.proofs.AcceptedLaws.{active_few, paired_few, sums_are_small}
 use Rattle.reasons.proofs.FieldLaws.{count_read, whole_read, wholes_read}
 use Rattle.reasons.proofs.FigureLaws.{active_shown, risk_shown}
 use Rattle.reasons.proofs.WordLaws.{the_scan, the_sums}
 use Rattle.reasons.proofs.line_laws.scan_follows_from_the_sums_line.Goals as goal
+use Rattle.scan_risk.proofs.SumLemmas.{sixteen_sums}
 
 -- the fields of the SUMS line are read as the scenario sums
 sums_are : (t : AcceptedTables) (holdings : List Holding) (n : ℕ) → AreAccepted t holdings
@@ -46,7 +47,7 @@ pub returns-clause-active_told : goal.returns-clause-active_told
 unfolding scan_of
 returns-clause-active_told c t holdings n ok =
     let sums = scenario_sums (held_at t holdings n) in
-    let few : active_scenario sums ≤ 17 = omega (arith, active_few sums, sixteen (held_at t holdings n)) in
+    let few : active_scenario sums ≤ 17 = omega (arith, active_few sums, sixteen_sums (held_at t holdings n)) in
     ap (λ (l : Line). number_at 0 l 1) (the_scan t holdings n) ∙ count_read (active_scenario sums) (omega (arith, few))
     ∙ ap (λ ss. pos (active_scenario ss)) (sym (sums_are t holdings n ok))
 
@@ -54,7 +55,7 @@ pub returns-clause-paired_told : goal.returns-clause-paired_told
 unfolding scan_of
 returns-clause-paired_told c t holdings n ok =
     let sums = scenario_sums (held_at t holdings n) in
-    let few : active_scenario sums ≤ 17 = omega (arith, active_few sums, sixteen (held_at t holdings n)) in
+    let few : active_scenario sums ≤ 17 = omega (arith, active_few sums, sixteen_sums (held_at t holdings n)) in
     let beside : paired_scenario (active_scenario sums) ≤ 18 = omega (arith, few, paired_few (active_scenario sums)) in
     ap (λ (l : Line). number_at 0 l 2) (the_scan t holdings n)
     ∙ count_read (paired_scenario (active_scenario sums)) (omega (arith, beside))

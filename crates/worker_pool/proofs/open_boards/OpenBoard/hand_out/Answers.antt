@@ -1,4 +1,4 @@
-use Rattle.std.proofs.Common.{◌≡◌, ◌∙◌, ap, length}
+use Rattle.std.proofs.Common.{◌∙◌, ap, length}
 use Rattle.step_scheduler.specs.Boards.{BoardView}
 use Rattle.step_scheduler.specs.Runs.{is_taken}
 use Rattle.step_scheduler.proofs.AtRest.{fewer_after}
