@@ -89,8 +89,8 @@ fn first_from(months: &[MonthUnits], near: usize, month: u32) -> usize
     place
 }
 
-// Returns whether a month (`yyyymm`) is held, and then at this place, which is the one of the first month that is not below
-// it.
+// Returns whether a month (`yyyymm`) is held. If it is, it has this place, since the place is the place of the first month
+// that is not below it.
 #[inline(always)]
 fn is_at(months: &[MonthUnits], first: usize, month: u32) -> bool
     requires rise { MonthsRise months.now }
@@ -102,8 +102,8 @@ fn is_at(months: &[MonthUnits], first: usize, month: u32) -> bool
     first < months.len() && months[first].month == month
 }
 
-// Returns what spreads used and left of a month's delta, as sizes in units of 10^-8. The place is the one of the first
-// month that is not below it. The months and the remaining deltas have the same places.
+// Returns what spreads used and left of a month's delta, as sizes in units of 10^-8. `first` is the place of the first
+// month that is not below the month. The months and the remaining deltas have the same places.
 #[inline(always)]
 fn used_and_left(
     months: &[MonthUnits],
@@ -144,8 +144,8 @@ fn use_of(months: &[MonthUnits], rests: &[MonthUnits], first: usize, spot: &Spot
     SpotUse { used, left, charge }
 }
 
-// Returns the sum of the charges of spot months, in 10^-8 minor units. It leaves out those that the index does not find
-// among the months, and looks for each month from the place of the one before on, since spot months usually rise.
+// Returns the sum of the charges of spot months, in 10^-8 minor units. It leaves out each spot month that the index does
+// not find among the months. It looks for each month from the place of the month before on, since spot months usually rise.
 fn spot_charges(
     months: &[MonthUnits],
     rests: &[MonthUnits],
