@@ -1,5 +1,5 @@
 -- The charges of spot months. A spot month that is not held is left out.
-use Rattle.std.proofs.Common.{◌≡◌, ◌≢◌, ℕ, ◌+◌, ◌-◌, ◌*◌, ◌%◌, ◌<◌, ◌≤◌, List, sym, ap, ◌∙◌}
+use Rattle.std.proofs.Common.{◌≡◌, ◌≢◌, ℕ, ◌+◌, ◌-◌, ◌*◌, ◌<◌, ◌≤◌, List, sym, ap, ◌∙◌}
 use Rattle.std.proofs.Common.{subst, arith, get_or, inl, inr, length, nat_abs, set, take, bit_or}
 use Rattle.std.specs.Int.{bit_at}
 use Rattle.std.specs.Prelude.{◌⊎◌, All, fold}
@@ -8,7 +8,6 @@ use Rattle.std.proofs.lemmas.Bool.{cases_eq}
 use Rattle.std.proofs.lemmas.List.{get_or-set_other, get_or-set_same, get_or_default, length-take}
 use Rattle.std.proofs.lemmas.List.Elements.{All-take}
 use Rattle.std.proofs.lemmas.List.Sums.{sum_by-le, sum_by_from}
-use Rattle.span_money.specs.declared.bits.TheConstants.{BITS}
 use Rattle.span_tables.specs.Accepted.{IsSpot}
 use Rattle.span_tables.specs.declared.limits.TheConstants.{MAX_RATE, MAX_SPOT_MONTHS, MAX_UNITS}
 use Rattle.span_tables.specs.declared.records.Spot.{Spot}
@@ -17,7 +16,7 @@ use Rattle.span_tables.proofs.LegIndexLemmas.{has_bit, left_word, right_word}
 use Rattle.spread_stage.specs.Charges.{spot_charge}
 use Rattle.spread_stage.specs.Deltas.{units_at}
 use Rattle.spread_stage.specs.Months.{AreMonths, Shrinks}
-use Rattle.spread_stage.specs.near.SpotIndex.{HasSpot}
+use Rattle.spread_stage.specs.near.SpotIndex.{HasSpot, month_slot}
 use Rattle.spread_stage.specs.declared.months.MonthUnits.{MonthUnits}
 use Rattle.spread_stage.specs.declared.spot_index.SpotIndex.{SpotIndex}
 use Rattle.spread_stage.proofs.SizeLemmas.{left_le, units_at_le}
@@ -26,16 +25,16 @@ use Rattle.spread_stage.proofs.BesideLemmas.{no_units}
 -- a word of the index was replaced by a word with more spot months
 pub spots_kept : (before after : SpotIndex) (slot word : ℕ) → slot < length before.slots → after.slots ≡ set before.slots slot word
     → HasWord word (get_or before.slots slot 0) → (k m : ℕ) → HasSpot before k m → HasSpot after k m
-spots_kept before after slot word lt placed more k m has = by (cases_eq (m % BITS) slot)
+spots_kept before after slot word lt placed more k m has = by (cases_eq (month_slot m) slot)
   where
-    by : (m % BITS ≡ slot) ⊎ (m % BITS ≢ slot) → HasSpot after k m
+    by : (month_slot m ≡ slot) ⊎ (month_slot m ≢ slot) → HasSpot after k m
     by (inl same) =
         let old : bit_at (get_or before.slots slot 0) k ≡ 1 = ap (λ n. bit_at (get_or before.slots n 0) k) (sym same) ∙ has in
-        ap (λ xs. bit_at (get_or xs (m % BITS) 0) k) placed ∙ ap (λ n. bit_at (get_or (set before.slots slot word) n 0) k) same
+        ap (λ xs. bit_at (get_or xs (month_slot m) 0) k) placed ∙ ap (λ n. bit_at (get_or (set before.slots slot word) n 0) k) same
         ∙ ap (λ w. bit_at w k) (get_or-set_same before.slots slot word 0 lt) ∙ has_bit word _ k more old
     by (inr other) =
-        ap (λ xs. bit_at (get_or xs (m % BITS) 0) k) placed
-        ∙ ap (λ w. bit_at w k) (get_or-set_other before.slots slot (m % BITS) word 0 other) ∙ has
+        ap (λ xs. bit_at (get_or xs (month_slot m) 0) k) placed
+        ∙ ap (λ w. bit_at w k) (get_or-set_other before.slots slot (month_slot m) word 0 other) ∙ has
 
 -- the index has one more spot month
 pub spot_more : (before after : SpotIndex) (spots : List Spot) (number : ℕ) (spot : Spot) → number < length spots
@@ -55,11 +54,11 @@ pub among_more : (index : SpotIndex) (months : List MonthUnits) (at : ℕ) (mont
     → month ≡ get_or months at month → (found : ℕ)
     → ((k i : ℕ) (m : MonthUnits) → i < at → HasSpot index k (get_or months i m).month → bit_at found k ≡ 1)
     → (k i : ℕ) (m : MonthUnits) → i < at + 1 → HasSpot index k (get_or months i m).month
-    → bit_at (bit_or found (get_or index.slots (month.month % BITS) 0)) k ≡ 1
+    → bit_at (bit_or found (get_or index.slots (month_slot month.month) 0)) k ≡ 1
 among_more index months at month within is found all k i m lt has = by (cases_eq i at)
   where
     word : ℕ
-    word = get_or index.slots (month.month % BITS) 0
+    word = get_or index.slots (month_slot month.month) 0
 
     by : (i ≡ at) ⊎ (i ≢ at) → bit_at (bit_or found word) k ≡ 1
     by (inl same) =

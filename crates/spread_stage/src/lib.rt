@@ -5,6 +5,7 @@
 pub mod charges;
 pub mod deltas;
 pub mod laws;
+pub mod month_slots;
 pub mod months;
 pub mod set_plans;
 pub mod spot_index;

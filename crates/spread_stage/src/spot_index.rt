@@ -6,12 +6,12 @@ ghost use Rattle.span_tables.specs.declared.limits.TheConstants.{MAX_SPOT_MONTHS
 ghost use Rattle.spread_stage.specs.near.SpotIndex.{AreSpots, HasSpot};
 ghost use Rattle.spread_stage.specs.declared.months.MonthUnits.{MonthUnits};
 
+use crate::month_slots::slot_of;
 use crate::months::MonthUnits;
 use span_money::bits::BITS;
 use span_tables::records::Spot;
 
-/// The spot months of each slot. A month (`yyyymm`) has the slot of its remainder by `BITS`, and a spot month is the bit
-/// of its number.
+/// The spot months of each slot of months. A spot month is the bit of its number.
 #[derive(Drop)]
 pub struct SpotIndex {
     slots: [u16; BITS],
@@ -36,7 +36,7 @@ impl SpotIndex {
         ensures added { HasSpot self.new number month }
         ensures kept { (k m : ℕ) → HasSpot self.old k m → HasSpot self.new k m }
     {
-        self.slots[month as usize % BITS] |= 1 << number;
+        self.slots[slot_of(month)] |= 1 << number;
     }
 
     /// Returns the spot months that may be among these months. A spot month is the bit of its number.
@@ -47,7 +47,7 @@ impl SpotIndex {
     {
         let mut found = 0;
         for month in months {
-            found |= self.slots[month.month as usize % BITS];
+            found |= self.slots[slot_of(month.month)];
         }
         u64::from(found)
     }

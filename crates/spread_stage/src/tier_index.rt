@@ -4,11 +4,12 @@ ghost use Rattle.std.specs.Prelude.{◌≡◌, ◌≤◌, length};
 ghost use Rattle.span_tables.specs.declared.limits.TheConstants.{MAX_TIERS};
 ghost use Rattle.spread_stage.specs.near.TierSums.{AreTiers, has_month};
 
+use crate::month_slots::{month_number, slot_of};
 use span_money::bits::BITS;
 use span_tables::records::Tier;
 
-/// For each slot of a month, the number of a tier that may have the month. A month (`yyyymm`) has the slot of its
-/// remainder by `BITS`. It spares a search, and decides nothing: a month that is not in that tier is looked for.
+/// For each slot of months, the number of a tier that may have the months of the slot. The index saves a search, and decides
+/// nothing: a month that is not in that tier is searched for.
 #[derive(Drop)]
 pub struct TierIndex {
     slots: [u8; BITS],
@@ -38,7 +39,7 @@ fn tier_of(tiers: &[Tier], month: u32) -> usize
 }
 
 impl TierIndex {
-    /// Returns the index of tiers. No month is in two of them, so that it takes no more steps than there are months.
+    /// Returns the index of tiers. It takes at most `BITS` steps for each tier.
     pub fn new(tiers: &[Tier]) -> TierIndex
         requires { length tiers.now ≤ MAX_TIERS }
     {
@@ -49,10 +50,12 @@ impl TierIndex {
         index
     }
 
-    // Enters a tier for the slots of its months.
+    // Enters a tier for the slots of its months, which are all slots if it has that many months.
     fn add(&mut self, number: u8, tier: &Tier) {
-        for month in tier.first..=tier.last {
-            self.slots[month as usize % BITS] = number;
+        let first = month_number(tier.first);
+        let last = month_number(tier.last).min(first + BITS - 1);
+        for month in first..=last {
+            self.slots[month % BITS] = number;
         }
     }
 
@@ -62,7 +65,7 @@ impl TierIndex {
         requires { AreTiers tiers.now }
         ensures { result ≡ position_or_len (has_month month) tiers.now }
     {
-        let near = usize::from(self.slots[month as usize % BITS]);
+        let near = usize::from(self.slots[slot_of(month)]);
         if near < tiers.len() && has_month(&tiers[near], month) {
             return near;
         }
