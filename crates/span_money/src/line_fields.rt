@@ -1,13 +1,16 @@
 //! Lines of fields: a word, its fields with a comma in front of each, and a line feed (docs/FORMATS.md, Statement).
-ghost use Rattle.std.specs.Fmt.{signed_decimal};
-ghost use Rattle.std.specs.Prelude.{◌≡◌, ◌++◌, ◌∷◌, ◌≤◌, [], OnOk, flat_map, map};
+ghost use Rattle.std.specs.Fmt.{decimal, signed_decimal};
+ghost use Rattle.std.specs.Prelude.{◌≡◌, ◌++◌, ◌∷◌, ◌<◌, ◌≤◌, [], OnOk, flat_map, map};
 ghost use Rattle.span_money.specs.ExactDecimals.{exact_decimal};
 ghost use Rattle.span_money.specs.LineFields.{field, line};
 ghost use Rattle.span_money.specs.near.Fields.{field_text};
 
 use crate::exact::push_exact;
-use itoa::Buffer;
+use itoa::{Buffer, write_digits};
 use std::alloc::AllocError;
+
+// The number of bytes that are copied for a short number.
+const COPIED: usize = 16;
 
 /// The value of a field: a text, a whole number, half of a number, or a number in units of 10^-4 or of 10^-8.
 #[derive(Clone, Copy)]
@@ -28,14 +31,28 @@ fn push_field(out: &mut Vec<u8>, text: &[u8]) -> Result<(), AllocError>
     out.extend_from_slice(text)
 }
 
+// Appends a comma and a number of at most 15 digits. It copies more bytes than there are and cuts off the rest, since a copy
+// of a fixed length has no branch.
+#[inline(always)]
+fn push_short(out: &mut Vec<u8>, n: u64) -> Result<(), AllocError>
+    requires { n < 1000000000000000 }
+    ensures { OnOk result (out.new.items ≡ out.old.items ++ field (decimal n)) }
+{
+    let mut text = [b','; 2 * COPIED];
+    let comma = write_digits(n, &mut text, COPIED) - 1;
+    let end = out.len() + (COPIED - comma);
+    out.extend_from_slice(&text[comma..comma + COPIED])?;
+    out.truncate(end);
+    Ok(())
+}
+
 /// Appends a comma and a whole number.
 pub fn push_number(out: &mut Vec<u8>, n: i128) -> Result<(), AllocError>
     ensures { OnOk result (out.new.items ≡ out.old.items ++ field (signed_decimal n)) }
 {
-    let mut buffer = Buffer::new();
     match u64::try_from(n) {
-        Ok(small) => push_field(out, buffer.format(small).as_bytes()),
-        Err(_) => push_field(out, buffer.format(n).as_bytes()),
+        Ok(small) if small < 1_000_000_000_000_000 => push_short(out, small),
+        _ => push_field(out, Buffer::new().format(n).as_bytes()),
     }
 }
 
