@@ -11,7 +11,7 @@ pub write_digits-comma-requires : goal.write_digits-comma-requires
 write_digits-comma-requires c =
     let short = length-decimal-le 15 c.args.n (omega arith) c.requires (omega (arith, c.requires)) in
     let within : length (decimal c.args.n) ≤ 16 = omega (arith, short) in
-    (within , omega arith)
+    (within, omega arith)
 
 pub overflow_sub-comma : goal.overflow_sub-comma
 overflow_sub-comma c =
@@ -28,20 +28,20 @@ returns c =
     let short = length-decimal-le 15 c.args.n (omega arith) c.requires (omega (arith, c.requires)) in
     let lt : start - 1 < start = omega (arith, ends, short) in
     let comma : get_or text (start - 1) 0 ≡ 44 =
-        sym (get_or-take start text (start - 1) 0 lt) ∙ ap (λ l. get_or l (start - 1) 0) c.write_digits-comma.ensures.before
-        ∙ get_or-take start (replicate 32 44) (start - 1) 0 lt ∙ get_or-replicate 32 (start - 1) 44 0 (omega (arith, ends, short)) in
+    sym (get_or-take start text (start - 1) 0 lt) ∙ ap (λ l. get_or l (start - 1) 0) c.write_digits-comma.ensures.before
+    ∙ get_or-take start (replicate 32 44) (start - 1) 0 lt ∙ get_or-replicate 32 (start - 1) 44 0 (omega (arith, ends, short)) in
     let next : suc (start - 1) ≡ start = omega (arith, ends, short) in
     let number : drop (start - 1) text ≡ 44 ∷ (digits ++ drop 16 (replicate 32 44)) =
-        drop-cons text (start - 1) 0 (omega (arith, ends, short, c.write_digits-comma.auto.buf))
-        ∙ ap (λ x. x ∷ drop (suc (start - 1)) text) comma
-        ∙ ap (λ k. 44 ∷ drop k text) next
-        ∙ ap (λ l. 44 ∷ l) c.write_digits-comma.ensures.written in
+    drop-cons text (start - 1) 0 (omega (arith, ends, short, c.write_digits-comma.auto.buf))
+    ∙ ap (λ x. x ∷ drop (suc (start - 1)) text) comma
+    ∙ ap (λ k. 44 ∷ drop k text) next
+    ∙ ap (λ l. 44 ∷ l) c.write_digits-comma.ensures.written in
     let long : 16 - (start - 1) ≡ suc (length digits) = omega (arith, ends, short) in
     let whole : take (16 - (start - 1)) (take (start - 1 + 16 - (start - 1)) (drop (start - 1) text)) ≡ field digits =
-        take-take (16 - (start - 1)) (start - 1 + 16 - (start - 1)) (drop (start - 1) text) (omega arith)
-        ∙ ap (take (16 - (start - 1))) number
-        ∙ ap (λ k. take k (44 ∷ (digits ++ drop 16 (replicate 32 44)))) long
-        ∙ take-append_seam (44 ∷ digits) (drop 16 (replicate 32 44)) in
+    take-take (16 - (start - 1)) (start - 1 + 16 - (start - 1)) (drop (start - 1) text) (omega arith)
+    ∙ ap (take (16 - (start - 1))) number
+    ∙ ap (λ k. take k (44 ∷ (digits ++ drop 16 (replicate 32 44)))) long
+    ∙ take-append_seam (44 ∷ digits) (drop 16 (replicate 32 44)) in
     c.truncate.ensures.items ∙ ap (take _) (c.in_ok-extend_from_slice.ensures.items)
     ∙ ap (λ k. take (k + (16 - (start - 1))) (c.args.out.now.items ++ take (start - 1 + 16 - (start - 1)) (drop (start - 1) text))) (c.len.ensures ∙ c.args.out.now.ok.0)
     ∙ take-append-add c.args.out.now.items _ (16 - (start - 1)) ∙ ap (λ ys. c.args.out.now.items ++ ys) whole
