@@ -49,21 +49,24 @@ spot_more before after spots number spot within added kept all k s lt = by (case
         (subst (λ (x : Spot). HasSpot after number x.month) (get_or_default spots number spot s within) added)
     by (inr other) = kept k _ (all k s (omega (arith, lt, other)))
 
--- the spot months of one more month
+-- the spot months of one more month, whose slot is given
 pub among_more : (index : SpotIndex) (months : List MonthUnits) (at : ℕ) (month : MonthUnits) → at < length months
-    → month ≡ get_or months at month → (found : ℕ)
+    → month ≡ get_or months at month → (slot : ℕ) → slot ≡ month_slot month.month → (found : ℕ)
     → ((k i : ℕ) (m : MonthUnits) → i < at → HasSpot index k (get_or months i m).month → bit_at found k ≡ 1)
     → (k i : ℕ) (m : MonthUnits) → i < at + 1 → HasSpot index k (get_or months i m).month
-    → bit_at (bit_or found (get_or index.slots (month_slot month.month) 0)) k ≡ 1
-among_more index months at month within is found all k i m lt has = by (cases_eq i at)
+    → bit_at (bit_or found (get_or index.slots slot 0)) k ≡ 1
+among_more index months at month within is slot slot_is found all k i m lt has = by (cases_eq i at)
   where
     word : ℕ
-    word = get_or index.slots (month_slot month.month) 0
+    word = get_or index.slots slot 0
 
     by : (i ≡ at) ⊎ (i ≢ at) → bit_at (bit_or found word) k ≡ 1
     by (inl same) =
         let here : get_or months i m ≡ month = ap (λ n. get_or months n m) same ∙ sym (is ∙ get_or_default months at month m within) in
-        has_bit (bit_or found word) word k (right_word found word) (subst (λ (x : MonthUnits). HasSpot index k x.month) here has)
+        let set_bit : bit_at (get_or index.slots (month_slot month.month) 0) k ≡ 1 =
+        subst (λ (x : MonthUnits). HasSpot index k x.month) here has in
+        has_bit (bit_or found word) word k (right_word found word)
+        (ap (λ n. bit_at (get_or index.slots n 0) k) slot_is ∙ set_bit)
     by (inr other) = has_bit (bit_or found word) found k (left_word found word) (all k i m (omega (arith, lt, other)) has)
 
 module _ (months rests : List MonthUnits) (are : AreMonths months) (shrinks : Shrinks months rests) where
