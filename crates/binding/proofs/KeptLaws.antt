@@ -31,14 +31,14 @@ over_kept h = by (is_over h) refl
     by true e = refl
     by false e = e
 
-over_at_kept : (c : ℕ) (hs : List Holding) → is_over_at c (map kept_holding hs) ≡ is_over_at c hs
+pub over_at_kept : (c : ℕ) (hs : List Holding) → is_over_at c (map kept_holding hs) ≡ is_over_at c hs
 over_at_kept c [] = refl
 over_at_kept c (h ∷ hs) =
     let here = over_kept h in
     let rest = over_at_kept c hs in
     λ i. ((h.contract == c) && here i) || rest i
 
-many_kept : (hs : List Holding) → are_many (map kept_holding hs) ≡ are_many hs
+pub many_kept : (hs : List Holding) → are_many (map kept_holding hs) ≡ are_many hs
 many_kept hs = ap (nat_lt MAX_HELD) (length-map hs kept_holding)
 
 -- stored nets exceed a limit exactly if the nets do

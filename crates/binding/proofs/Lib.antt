@@ -19,7 +19,7 @@ pub mod PlaceLaws
 pub mod PortfolioLaws
 pub mod SliceLaws
 pub mod ToldOnce
-pub mod TradeLaws
+pub mod TraderLaws
 pub mod UnfitLaws
 pub mod UnfitWalk
 pub mod MergedFit
@@ -28,3 +28,4 @@ pub mod OrderTransfer
 pub mod KeptOrderLaws
 pub mod OrderBindLaws
 pub mod TriedLaws
+pub mod TradeOrders

@@ -33,7 +33,7 @@ no_faults {F} fault_of none earlier (x ∷ xs) =
     ∙ no_faults fault_of none (earlier ++ x ∷ []) xs
 
 -- if no net is over the limit, no net is over it at any contract number
-none_over_in : (c : ℕ) (holdings : List Holding) → list_any is_over holdings ≡ false → is_over_at c holdings ≡ false
+pub none_over_in : (c : ℕ) (holdings : List Holding) → list_any is_over holdings ≡ false → is_over_at c holdings ≡ false
 none_over_in c [] e = refl
 none_over_in c (h ∷ holdings) e =
     let parts = or_parts (is_over h) (list_any is_over holdings) e in

@@ -47,7 +47,7 @@ use Rattle.binding.proofs.KeptLaws.{each_same}
 use Rattle.binding.proofs.KeptOrderLaws.{before_is, kept_of_names, place_there}
 use Rattle.binding.proofs.MergedFit.{merged_holds, over_by_name}
 use Rattle.binding.proofs.OrderNets.{after_under, known_count, merged_are}
-use Rattle.binding.proofs.OrderTransfer.{transferred}
+use Rattle.binding.proofs.OrderTransfer.{first_of-map, transferred}
 use Rattle.binding.proofs.OwnerLaws.{first_is_held, first_is_net, first_is_unknown, fit_from}
 use Rattle.binding.proofs.PlaceLaws.{listed_is}
 use Rattle.binding.proofs.PortfolioLaws.{few_among}
@@ -177,10 +177,6 @@ module _ (contracts : List Contract) (portfolios : List AccountHoldings) (record
         ∙ merged_are contracts (before order) (known_records contracts positions) order apart))
 
     module _ (orders : List KeptOrder) (orders_are : orders ≡ map kept (orders_in records)) where
-      first_of-map : (xs : List BindFault) → first_of (map order_fault xs) ≡ option_map order_fault (first_of xs)
-      first_of-map [] = refl
-      first_of-map (x ∷ xs) = refl
-
       -- the first fault found is the fault of the definition
       pub found_first : (unknown : List BindFault) (excesses : List Excess) → unknown ≡ foreign_faults (ids_of contracts) positions
           → excesses ≡ map (λ o. excess_of (kept_after (length contracts) portfolios o)) orders
@@ -192,7 +188,7 @@ module _ (contracts : List Contract) (portfolios : List AccountHoldings) (record
           let by_name = excesses_are ∙ ap (map of_kept) orders_are ∙ map-map of_kept kept (orders_in records)
           ∙ (λ k. map (λ order. excess_of (after_kept order k)) (orders_in records))
           ∙ ap (map (λ order. excess_of (map kept_holding (with_order order)))) (sym (orders_under records)) in
-          sym (first_of-map (found_faults (ids_of contracts) unknown excesses positions))
+          sym (first_of-map order_fault (found_faults (ids_of contracts) unknown excesses positions))
           ∙ ap (λ fs. first_of (map order_fault fs)) (found_are contracts positions with_order excesses by_name unknown are)
           ∙ (λ k. first_of (map order_fault (owner_faults (λ (p : PositionRecord). p.account) (λ p. p.contract)
           bind.UnknownContract bind.NetOutOfRange bind.TooManyHeld contracts

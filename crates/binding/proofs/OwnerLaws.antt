@@ -113,6 +113,11 @@ module _ {R F : Type 0} (owner contract : R → List ℕ) (b1 b2 b3 : ℕ → Li
     pub first_is_held : list_any over all ≡ false → answer ≡ too_many
     first_is_held within = no_unknown ∙ ap (λ o. option_or o too_many) (net_of_kind ∙ unfit_none owner b2 over all within)
 
+    -- the first net over the limit, otherwise the first owner with too many contracts
+    pub first_limit : answer
+        ≡ option_or (first_unfit_by owner b2 (λ earlier r. over r) all) (first_unfit_by owner b3 (λ earlier r. many r) all)
+    first_limit = no_unknown ∙ (λ i. option_or (net_of_kind i) (held_of_kind i))
+
     -- such records have no fault
     pub none_from : list_any over all ≡ false → list_any many all ≡ false → answer ≡ None
     none_from within few = first_is_held within ∙ held_of_kind ∙ unfit_none owner b3 many all few

@@ -1,11 +1,14 @@
 -- Lemmas about the first record with a fault, if the fault depends on the record alone.
-use Rattle.std.proofs.Common.{◌≡◌, ℕ, ◌+◌, Bool, true, false, cond, not, ◌||◌, ◌&&◌, List, []}
+use Rattle.std.proofs.Common.{◌≡◌, ℕ, ◌+◌, ◌<◌, Bool, true, false, cond, not, ◌||◌, ◌&&◌, List, [], arith, get_or, ltb, take}
 use Rattle.std.proofs.Common.{◌∷◌, ◌++◌, length, Option, Some, None, refl, sym, ap, ◌∙◌}
-use Rattle.std.specs.Prelude.{option_map}
+use Rattle.std.specs.Prelude.{option_map, position}
 use Rattle.std.specs.Option.{option_or}
-use Rattle.std.specs.List.{list_any}
-use Rattle.std.proofs.lemmas.Bool.{true≢false, or_parts, and_right, false_from_ne_true}
-use Rattle.std.proofs.lemmas.List.Folds.{list_any-append}
+use Rattle.std.specs.List.{list_any, position_from}
+use Rattle.std.proofs.lemmas.Bool.{true≢false, or_parts, and_right, false_from_ne_true, lt-ltb}
+use Rattle.std.proofs.lemmas.Iterator.Adapters.{position_from-zero}
+use Rattle.std.proofs.lemmas.List.{get_or-take, length-append, length-take-le}
+use Rattle.std.proofs.lemmas.List.Folds.{list_any-append, list_any_at}
+use Rattle.std.proofs.lemmas.List.Sums.{position_or_len_is}
 use Rattle.span_tables.specs.Faults.{first_fault_after, first_of}
 use Rattle.span_tables.proofs.FaultLaws.{first_fault_next}
 use Rattle.binding.specs.Binding.{all_unfit_by, first_unfit_by}
@@ -108,3 +111,43 @@ module _ {R F : Type 0} (name_of : R → List ℕ) (fault : ℕ → List ℕ →
         ≡ first_unfit_by name_of fault (λ earlier p. unfit p) xs
     unfolding firsts after
     first_of_kind xs = firsts_after [] xs refl
+
+-- the first fault, if all records have one name: the fault at the index of the first unfit record
+module _ {R F : Type 0} (name : List ℕ) (fault : ℕ → List ℕ → F) (unfit : R → Bool) where
+  by_index : (earlier xs : List R) → after (λ (r : R). name) fault unfit earlier xs
+      ≡ option_map (λ i. fault (i + 1) name) (position_from unfit (length earlier) xs)
+  unfolding after fault_if
+  by_index earlier [] = refl
+  by_index earlier (p ∷ xs) = by (unfit p) refl (by_index (earlier ++ p ∷ []) xs)
+    where
+      found : ℕ → Option F
+      found n = option_map (λ i. fault (i + 1) name) (position_from unfit n xs)
+
+      by : (b : Bool) → unfit p ≡ b → after (λ (r : R). name) fault unfit (earlier ++ p ∷ []) xs ≡ found (length (earlier ++ p ∷ []))
+          → after (λ (r : R). name) fault unfit earlier (p ∷ xs)
+          ≡ option_map (λ i. fault (i + 1) name) (cond b (Some (length earlier)) (position_from unfit (length earlier + 1) xs))
+      by true e more = one (λ r. name) fault unfit true earlier p xs e
+      by false e more = one (λ r. name) fault unfit false earlier p xs e ∙ more ∙ ap found (length-append earlier (p ∷ []))
+
+  pub first_by_index : (xs : List R) → first_unfit_by (λ (r : R). name) fault (λ earlier p. unfit p) xs
+      ≡ option_map (λ i. fault (i + 1) name) (position unfit xs)
+  unfolding after
+  first_by_index xs = by_index [] xs ∙ ap (option_map (λ i. fault (i + 1) name)) (sym (position_from-zero unfit xs))
+
+-- the index of the first element that passes a test
+pub position_at : {X : Type 0} (test : X → Bool) (xs : List X) (i : ℕ) (d : X) → i < length xs → list_any test (take i xs) ≡ false
+    → test (get_or xs i d) ≡ true → position test xs ≡ Some i
+position_at test xs i d lt none here =
+    let before = λ (k : ℕ) (less : k < i). false_from_ne_true (test (get_or xs k d)) (λ t.
+    let size = length-take-le i xs (omega (arith, lt)) in
+    true≢false (sym (list_any_at test (take i xs) k d (omega (arith, less, size)) (ap test (get_or-take i xs k d less) ∙ t)) ∙ none)) in
+    ap (λ n. cond (ltb n (length xs)) (Some n) None) (position_or_len_is test xs i d (omega (arith, lt)) before (λ l. here))
+    ∙ ap (λ b. cond b (Some i) None) (lt-ltb i (length xs) lt)
+
+-- no element passes a test
+pub position_nowhere : {X : Type 0} (test : X → Bool) → ((x : X) → test x ≡ false) → (xs : List X) → position test xs ≡ None
+position_nowhere {X = X} test none xs = position_from-zero test xs ∙ by 0 xs
+  where
+    by : (n : ℕ) (ys : List X) → position_from test n ys ≡ None
+    by n [] = refl
+    by n (y ∷ ys) = ap (λ b. cond b (Some n) (position_from test (n + 1) ys)) (none y) ∙ by (n + 1) ys

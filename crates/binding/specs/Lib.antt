@@ -1,4 +1,5 @@
 pub mod BindTexts
 pub mod Binding
 pub mod OrderBinding
+pub mod Trades
 pub mod near

@@ -10,17 +10,9 @@ use Rattle.span_tables.specs.declared.portfolios.Holding.{Holding}
 use Rattle.span_tables.specs.declared.records.Contract.{Contract}
 use Rattle.span_tables.specs.declared.records.OrderRecord.{OrderRecord}
 use Rattle.binding.specs.Binding.{first_unfit_by, owner_faults}
-use Rattle.binding.specs.declared.trades.Trade.{Trade}
 use Rattle.binding.specs.declared.faults.OrderBindFault.{OrderBindFault}
 use Rattle.binding.specs.declared.faults.OrderBindFault.TheVariants as fault
 use Rattle.span_tables.specs.declared.limits.TheConstants.{MAX_NET, MAX_HELD}
-
--- ---- records
-
--- the record of a trade of an order of an account
-abbrev pub trade_record : List ℕ → List ℕ → Trade → OrderRecord
-trade_record order account trade =
-    record { order = order; account = account; contract = trade.contract; quantity = trade.quantity }
 
 -- ---- the holdings of an account
 

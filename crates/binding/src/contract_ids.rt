@@ -23,8 +23,8 @@ pub(crate) fn ids_of(alloc: Global, tables: &Tables) -> Result<IndexSet<Name>, A
     Ok(numbers)
 }
 
-// The index of a contract among the ids, or the number of ids if it is not among them.
-fn place_of(numbers: &IndexSet<Name>, contract: &Name) -> u16
+/// Returns the index of a contract among the ids, or the number of ids if it is not among them.
+pub(crate) fn place_of(numbers: &IndexSet<Name>, contract: &Name) -> u16
     requires { length numbers.now.keys ≤ MAX_CONTRACTS }
     ensures { result ≡ contract_place numbers.now.keys contract.now }
 {

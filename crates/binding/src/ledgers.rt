@@ -51,7 +51,8 @@ impl Ledger {
         })
     }
 
-    fn push(&mut self, entry: Entry) -> Result<(), AllocError>
+    /// Appends an entry.
+    pub(crate) fn push(&mut self, entry: Entry) -> Result<(), AllocError>
         requires { nat_abs entry.quantity ≤ MAX_QUANTITY }
         ensures { OnOk result (self.new ≡ self.old ++ entry ∷ []) }
     {
@@ -59,8 +60,12 @@ impl Ledger {
         Ok(())
     }
 
-    // Holdings as entries, with room for `more` entries.
-    fn of_held(alloc: Global, holdings: &[Holding], more: usize) -> Result<Ledger, AllocError>
+    /// Returns holdings as entries, with room for `more` entries.
+    pub(crate) fn of_held(
+        alloc: Global,
+        holdings: &[Holding],
+        more: usize,
+    ) -> Result<Ledger, AllocError>
         requires { ArePortfolio holdings.now }
         ensures { IfOk result (λ ledger. ledger ≡ held_entries holdings.now) }
     {

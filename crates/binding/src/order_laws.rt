@@ -1,15 +1,18 @@
 //! Lemmas about evaluated orders, in the terms of the method. Each is the contract of a function with an empty body.
-ghost use Rattle.std.specs.Prelude.{◌≡◌, ◌&&◌, ◌++◌, ℕ, List, None, Some, All, bytes_eq, false, filter, length, true};
+ghost use Rattle.std.specs.Prelude.{◌≡◌, ◌<◌, ◌&&◌, ◌++◌, ℕ, List, None, Some, All, bytes_eq, false, filter, length, map, true};
 ghost use Rattle.std.specs.List.{list_any};
 ghost use Rattle.binding.specs.OrderBinding.{exceeds_held_with, exceeds_net_with, first_unfit_order, is_first_of_leg};
 ghost use Rattle.binding.specs.OrderBinding.{holdings_after, holdings_before, is_first_of_order, is_of_unknown};
-ghost use Rattle.binding.specs.OrderBinding.{order_bind_fault, tried_order};
+ghost use Rattle.binding.specs.OrderBinding.{order_bind_fault, orders_bound, tried_order};
+ghost use Rattle.binding.specs.Trades.{as_order, held_after, order_trade, trade_fault, traded};
 ghost use Rattle.binding.specs.declared.faults.OrderBindFault.TheVariants as order;
 ghost use Rattle.binding.specs.declared.faults.OrderBindFault.{OrderBindFault};
+ghost use Rattle.binding.specs.declared.trades.Trade.{Trade};
 ghost use Rattle.span_tables.specs.Holdings.{ArePortfolio, fits};
 ghost use Rattle.span_tables.specs.Names.{has_repeat, is_among};
 ghost use Rattle.span_tables.specs.Net.{AccountHoldings, holdings_of, portfolios_of};
-ghost use Rattle.span_tables.specs.Orders.{account_of_order, orders_in, positions_of_order};
+ghost use Rattle.span_tables.specs.Orders.{account_of_order, holdings_among, orders_in, positions_of_order};
+ghost use Rattle.span_tables.specs.declared.portfolios.Holding.{Holding};
 ghost use Rattle.span_tables.specs.declared.records.Contract.{Contract};
 ghost use Rattle.span_tables.specs.declared.records.OrderRecord.{OrderRecord};
 ghost use Rattle.span_tables.specs.declared.records.PositionRecord.{PositionRecord};
@@ -68,4 +71,20 @@ pub fn faults_of_orders_go_in_order()
         → first_unfit_order order.TooManyHeld
         (λ earlier r. is_first_of_order earlier r && exceeds_held_with contracts portfolios all r) all ≡ Some y
         → order_bind_fault contracts portfolios all ≡ Some y }
+{}
+
+/// Trades on an account are bound as an order file of one order of that account with these trades. So a trial of orders
+/// and trades on the account have the same results.
+pub fn trades_are_bound_as_an_order()
+    ensures { (contracts : List Contract) (portfolios : List AccountHoldings) (order account : List ℕ) (trades : List Trade)
+        → 0 < length trades → orders_bound contracts portfolios (map (order_trade order account) trades)
+        ≡ as_order portfolios order (holdings_among portfolios account)
+        (traded contracts (holdings_among portfolios account) account trades) }
+{}
+
+/// Trades without a fault leave the account a portfolio: the number of contracts and each net are within the limits.
+pub fn accepted_trades_are_within_limits()
+    ensures { (contracts : List Contract) (held : List Holding) (account : List ℕ) (trades : List Trade)
+        → has_repeat (λ x y. bytes_eq x.id y.id) contracts ≡ false → ArePortfolio held → 0 < length trades
+        → trade_fault contracts held account trades ≡ None → ArePortfolio (held_after contracts held account trades) }
 {}

@@ -154,72 +154,6 @@ fn bind_orders_of(
     }
 }
 
-/// Binds orders to the contracts of accepted tables. Clauses see the list of the contracts' ids, by contract number.
-///
-/// A binder is made once for a parameter set, and binds any number of orders. Each order costs one word for each 64
-/// contracts of the set. Otherwise its cost depends only on the order and the holdings of its account, since no call
-/// reads the contracts themselves.
-#[derive(Drop)]
-pub struct OrderBinder {
-    numbers: IndexSet<Name>,
-    sums: Sums,
-}
-
-impl Model for OrderBinder {
-    ghost use Rattle.std.specs.Prelude.{ℕ, List};
-    ghost use Rattle.binding.specs.near.Ledgers.{AreNumbers};
-
-    ghost Value = { List (List ℕ) };
-
-    ghost view = { λ binder. binder.numbers.keys };
-
-    ghost invariant = { λ binder. AreNumbers binder.numbers.keys };
-}
-
-impl OrderBinder {
-    /// Returns a binder to the contracts of these tables. It fails only if it runs out of memory, as does
-    /// `portfolio_after`.
-    pub fn new(alloc: Global, tables: &Tables) -> Result<OrderBinder, AllocError>
-        ensures { IfOk result (λ binder. binder ≡ ids_of tables.now.contracts) }
-    {
-        let numbers = ids_of(alloc, tables)?;
-        let sums = Sums::new(alloc, numbers.len() as u32)?;
-        Ok(OrderBinder { numbers, sums })
-    }
-
-    /// Returns the orders of a file with the portfolios of their accounts, or the fault of the orders, B1 to B3
-    /// (docs/FORMATS.md, "Faults").
-    pub fn bind(
-        &mut self,
-        alloc: Global,
-        portfolios: Portfolios,
-        orders: &RawOrders,
-    ) -> Result<Orders, OrderBindFault>
-        ensures orders { (contracts : List Contract) → ids_of contracts ≡ self.old
-            → Gives is_memory result (orders_bound contracts portfolios orders.now) }
-        ensures binder { self.new ≡ self.old }
-    {
-        bind_orders_of(alloc, &self.numbers, &mut self.sums, portfolios, orders)
-    }
-
-    /// Returns the portfolio of the account of an order with that order, given by its number from 0. The orders may be
-    /// from another binder. If that binder has a different number of contracts, memory for their sums is allocated again.
-    pub fn portfolio_after(
-        &mut self,
-        alloc: Global,
-        orders: &Orders,
-        order: usize,
-    ) -> Result<Portfolio, AllocError>
-        requires { order < length orders.now.orders }
-        ensures after { IfOk result (λ after. option_map (λ o. o.after) (slice_get orders.now.orders order) ≡ Some after) }
-        ensures binder { self.new ≡ self.old }
-    {
-        let portfolios = orders.portfolios.as_slice();
-        let order = &orders.orders[order];
-        portfolio_after(alloc, &mut self.sums, orders.contracts, portfolios, order)
-    }
-}
-
 /// Returns the orders of a file, evaluated on the portfolios of accounts, or the fault of the orders, B1 to B3
 /// (docs/FORMATS.md, "Faults").
 pub fn bind_orders(
@@ -230,5 +164,7 @@ pub fn bind_orders(
 ) -> Result<Orders, OrderBindFault>
     ensures { Gives is_memory result (orders_bound tables.now.contracts portfolios orders.now) }
 {
-    OrderBinder::new(alloc, tables)?.bind(alloc, portfolios, orders)
+    let numbers = ids_of(alloc, tables)?;
+    let mut sums = Sums::new(alloc, numbers.len() as u32)?;
+    bind_orders_of(alloc, &numbers, &mut sums, portfolios, orders)
 }

@@ -34,15 +34,15 @@ pub(crate) struct Excess {
     many: bool,
 }
 
-// Whether some net is over the limit.
-fn has_over(holdings: &[Holding]) -> bool
+/// Returns whether some net is over the limit.
+pub(crate) fn has_over(holdings: &[Holding]) -> bool
     ensures { result ≡ list_any is_over holdings.now }
 {
     holdings.iter().any(|holding| is_over(holding))
 }
 
-// Whether the net in a contract, given by its number, is over the limit.
-fn is_over_at(holdings: &[Holding], contract: usize) -> bool
+/// Returns whether the net in a contract, given by its number, is over the limit.
+pub(crate) fn is_over_at(holdings: &[Holding], contract: usize) -> bool
     requires { IsStrictlyIncreasing (map (λ h. h.contract) holdings.now) }
     ensures { result ≡ is_over_at contract holdings.now }
 {
@@ -52,8 +52,8 @@ fn is_over_at(holdings: &[Holding], contract: usize) -> bool
     }
 }
 
-// Whether more contracts are held than allowed.
-fn are_many(holdings: &[Holding]) -> bool
+/// Returns whether more contracts are held than allowed.
+pub(crate) fn are_many(holdings: &[Holding]) -> bool
     ensures { result ≡ are_many holdings.now }
 {
     holdings.len() > MAX_HELD

@@ -1,7 +1,7 @@
 -- How lines are taken from an input.
 use Rattle.std.proofs.Common.{◌≡◌, ◌∙◌, ℕ, Bool, true, false, List, [], ◌∷◌, ◌++◌, refl, subst, sym, ap, append_assoc, append-nil}
-use Rattle.std.proofs.KnownBytes.{Consumes-nil, Consumes-trans, prepend_known-nil}
-use Rattle.std.proofs.lemmas.List.Elements.{All-append, All-nil}
+use Rattle.std.proofs.KnownBytes.{Consumes-trans, prepend_known-nil}
+use Rattle.std.proofs.lemmas.List.Elements.{All-append}
 use Rattle.std.specs.Prelude.{OnErr, Option, Some, None, Result, Ok, Err}
 use Rattle.std.specs.Io.KnownBytes.{Consumes, IsAtEnd, prepend_known}
 use Rattle.sources.specs.Readings.{Reading}
@@ -22,15 +22,6 @@ pub all_coming : (block : List ℕ) (reading : Reading) (bytes : Option (List �
 all_coming block reading bytes none same = rw (none, same) (prepend_known-nil bytes)
 
 -- ---- one line
-
--- before anything is read
-pub reads_none : (bytes : Option (List ℕ)) (line : Kept) → line ≡ kept_of [] → ReadsLine bytes bytes line []
-reads_none bytes line fresh = record {
-  part = [];
-  no_feed = All-nil (λ b. is_feed b ≡ false);
-  taken = Consumes-nil bytes;
-  kept = fresh;
-}
 
 -- bytes that are taken from a block are taken from the bytes that are still to be taken
 from_block : (front block : List ℕ) (known : Option (List ℕ))

@@ -75,7 +75,7 @@ no_records (p ∷ ps) account new =
     rw apart (no_records ps account parts.1)
 
 -- an account that is not in the second part has all its records in the first
-records_in_first : (ps qs : List PositionRecord) (account : List ℕ) → is_among (map (λ p. p.account) qs) account ≡ false
+pub records_in_first : (ps qs : List PositionRecord) (account : List ℕ) → is_among (map (λ p. p.account) qs) account ≡ false
     → records_of_account (ps ++ qs) account ≡ records_of_account ps account
 records_in_first ps qs account new =
     filter-append (λ p. bytes_eq p.account account) ps qs
@@ -152,7 +152,7 @@ portfolios_alike contracts ps qs (x ∷ names) alike =
     λ i. here i ∷ rest i
 
 -- the portfolios of two parts together are the portfolios of each, joined
-portfolios_joined : (contracts : List Contract) (ps qs : List PositionRecord) → AreApart ps qs
+pub portfolios_joined : (contracts : List Contract) (ps qs : List PositionRecord) → AreApart ps qs
     → portfolios_of contracts (ps ++ qs) ≡ portfolios_of contracts ps ++ portfolios_of contracts qs
 unfolding portfolios_of
 portfolios_joined contracts ps qs apart =
@@ -223,7 +223,7 @@ module _ (contracts : List Contract) (ps qs : List PositionRecord) (apart : AreA
       ap (λ hs. nat_lt MAX_HELD (length hs)) (holdings_alone contracts xs ys p.account alike))
 
   -- two parts that are fit are fit together
-  fit_joined : IsFit contracts ps → IsFit contracts qs → IsFit contracts (ps ++ qs)
+  pub fit_joined : IsFit contracts ps → IsFit contracts qs → IsFit contracts (ps ++ qs)
   fit_joined one other = record {
     known = known_joined ∙ or_from _ _ one.known other.known;
     within = nets_joined ∙ or_from _ _ one.within other.within;

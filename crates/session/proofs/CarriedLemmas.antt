@@ -1,13 +1,13 @@
 -- The holdings of an account under another parameter set: its holdings with the numbers of their contracts in that set,
 -- sorted by number.
 use Rattle.std.proofs.Common.{◌≡◌, ◌≢◌, ℕ, suc, ◌+◌, ◌<◌, ◌≤◌, ◌⊎◌, Bool, true, false, cond, not, ◌&&◌, List, [], ◌∷◌}
-use Rattle.std.proofs.Common.{Equal, Greater, Less}
 use Rattle.std.proofs.Common.{length, map, filter, get_or, Some, None, slice_get, refl, sym, ap, subst, ◌∙◌, arith, inl, inr}
 use Rattle.std.specs.Prelude.{ℤ, pos, ◌+ℤ◌, ◌==◌, All, bytes_eq, filter_map, nat_abs, nat_lt, option_map, unwrap_or}
 use Rattle.std.specs.List.{cons_option, enumerate_from, position_or_len}
 use Rattle.std.specs.List.Sorted.{IsSortedByKey, IsStableByKey, IsStrictlyIncreasing, ties}
 use Rattle.std.specs.Ordering.{is_lt, nat_cmp}
-use Rattle.std.proofs.lemmas.Bool.{and_parts, cases_eq, eq-eqb, eqb-true, le-ltb, lt-ltb, ltb-false, ltb-true, ne_eqb, true≢false}
+use Rattle.std.proofs.lemmas.Bool.{and_parts, eq-eqb, eqb-true, lt-ltb, ltb-true, ne_eqb, true≢false}
+use Rattle.std.proofs.lemmas.Bool.Decides.{nat_tests}
 use Rattle.std.proofs.lemmas.Int.{ints}
 use Rattle.std.proofs.lemmas.List.{get_or-map, length-map}
 use Rattle.std.proofs.lemmas.List.Elements.{All-filter, All-weaker, filter_agree, filter_passes}
@@ -81,51 +81,37 @@ none_past n k (h ∷ hs) fit le =
 
 -- a number that is not less
 not_less : (a b : ℕ) → b ≤ a → is_lt (nat_cmp a b) ≡ false
-not_less a b le = ap (λ l. is_lt (cond l Less (cond (a == b) Equal Greater))) (le-ltb a b le) ∙ by (a == b)
-  where
-    by : (e : Bool) → is_lt (cond e Equal Greater) ≡ false
-    by true = refl
-    by false = refl
+not_less a b le = grind (arith, nat_tests, le)
 
 -- two numbers tie if and only if they are equal
 tie : (a b : ℕ) → (not (is_lt (nat_cmp a b)) && not (is_lt (nat_cmp b a))) ≡ (b == a)
-tie a b = by (nat_lt a b) (nat_lt b a) (a == b) (b == a) refl refl refl
-  where
-    by : (l m e f : Bool) → nat_lt a b ≡ l → nat_lt b a ≡ m → (b == a) ≡ f
-        → (not (is_lt (cond l Less (cond e Equal Greater))) && not (is_lt (cond m Less (cond f Equal Greater)))) ≡ f
-    by true m e true is_l is_m is_f = absurd (omega (arith, ltb-true a b is_l, eqb-true b a is_f))
-    by true m e false is_l is_m is_f = refl
-    by false true e true is_l is_m is_f = absurd (omega (arith, ltb-true b a is_m, eqb-true b a is_f))
-    by false true true false is_l is_m is_f = refl
-    by false true false false is_l is_m is_f = refl
-    by false false true true is_l is_m is_f = refl
-    by false false false true is_l is_m is_f = refl
-    by false false e false is_l is_m is_f =
-        absurd (true≢false (sym (eq-eqb b a (omega (arith, ltb-false a b is_l, ltb-false b a is_m))) ∙ is_f))
+tie a b = grind (arith, nat_tests)
 
 -- ---- the nets of holdings
 
+-- the contract of a holding
+pub contract_at : (contracts : List Contract) (h : Holding) → h.contract < length contracts
+    → (x : Contract) × (slice_get contracts h.contract ≡ Some x) × (get_or contracts h.contract x ≡ x) × (contract_of contracts h ≡ x.id)
+contract_at contracts h lt = by (slice_get_cases contracts h.contract).1
+  where
+    by : ((x : Contract) × (h.contract < length contracts) × (slice_get contracts h.contract ≡ Some x)
+        × (get_or contracts h.contract x ≡ x)) ⊎ ((length contracts ≤ h.contract) × (slice_get contracts h.contract ≡ None))
+        → (x : Contract) × (slice_get contracts h.contract ≡ Some x) × (get_or contracts h.contract x ≡ x)
+        × (contract_of contracts h ≡ x.id)
+    by (inl found) = (found.0, found.2, found.3, ap (λ o. unwrap_or (option_map (λ (x : Contract). x.id) o) []) found.2)
+    by (inr past) = absurd (omega (arith, lt, past.0))
+
 module _ (old : List Contract) (apart : has_repeat (λ x y. bytes_eq x.id y.id) old ≡ false) (account id : List ℕ) where
   eqb_flip : (a b : ℕ) → (a == b) ≡ (b == a)
-  eqb_flip a b = by (cases_eq a b)
-    where
-      by : (a ≡ b) ⊎ (a ≡ b → ⊥) → (a == b) ≡ (b == a)
-      by (inl e) = eq-eqb a b e ∙ sym (eq-eqb b a (sym e))
-      by (inr n) = ne_eqb a b n ∙ sym (ne_eqb b a (λ e. n (sym e)))
+  eqb_flip a b = grind (arith, nat_tests)
 
   -- a holding has the contract with an id if and only if it has its index
   same_test : (h : Holding) → h.contract < length old
       → bytes_eq (contract_of old h) id ≡ (h.contract == position_or_len (bytes_eq id) (ids_of old))
-  same_test h lt = by (slice_get_cases old h.contract).1
-    where
-      by : ((x : Contract) × (h.contract < length old) × (slice_get old h.contract ≡ Some x) × (get_or old h.contract x ≡ x))
-          ⊎ ((length old ≤ h.contract) × (slice_get old h.contract ≡ None))
-          → bytes_eq (contract_of old h) id ≡ (h.contract == position_or_len (bytes_eq id) (ids_of old))
-      by (inl found) =
-          ap (λ o. bytes_eq (unwrap_or (option_map (λ (x : Contract). x.id) o) []) id) found.2
-          ∙ bytes_eq-flip (found.0).id id ∙ sym (number_is old id h.contract found.0 apart found.2)
-          ∙ eqb_flip (position_or_len (bytes_eq id) (ids_of old)) h.contract
-      by (inr past) = absurd (omega (arith, lt, past.0))
+  same_test h lt =
+      let at = contract_at old h lt in
+      ap (λ c. bytes_eq c id) at.3 ∙ bytes_eq-flip (at.0).id id ∙ sym (number_is old id h.contract at.0 apart at.1)
+      ∙ eqb_flip (position_or_len (bytes_eq id) (ids_of old)) h.contract
 
   -- the net of an id, by the records of the holdings, is the net of its contract's index
   pub net_named : (hs : List Holding) → fits (length old) hs ≡ true

@@ -1,14 +1,14 @@
 -- The holdings and the accounts that are carried over to another parameter set, one after the other.
-use Rattle.std.proofs.Common.{◌≡◌, ◌∙◌, ℕ, suc, ◌+◌, ◌<◌, ◌≤◌, ◌⊎◌, inl, inr, Bool, true, false, cond, not, List, [], ◌∷◌, ◌++◌}
-use Rattle.std.proofs.Common.{length, map, flat_map, get_or, take, drop, slice_get, Option, Some, None, refl, sym, ap, subst, arith}
+use Rattle.std.proofs.Common.{◌≡◌, ◌∙◌, ℕ, suc, ◌+◌, ◌<◌, ◌≤◌, Bool, true, false, cond, not, List, [], ◌∷◌, ◌++◌}
+use Rattle.std.proofs.Common.{length, map, flat_map, get_or, take, drop, Option, Some, None, refl, sym, ap, subst, arith}
 use Rattle.std.proofs.Common.{append_assoc}
-use Rattle.std.specs.Prelude.{⊤, All, MatchBool, bytes_eq, filter_map, find, is_some, option_map, unwrap_or}
+use Rattle.std.specs.Prelude.{⊤, All, MatchBool, bytes_eq, filter_map, find, is_some, option_map}
 use Rattle.std.specs.List.{IsDistinct, cons_option, list_any}
 use Rattle.std.specs.Option.{option_or}
 use Rattle.std.proofs.lemmas.List.{append-nil, get_or-map, map-append, take-append-drop, take_all, take_more}
 use Rattle.std.proofs.lemmas.List.Elements.{All-map, filter_map-append}
 use Rattle.std.proofs.lemmas.List.Folds.{find-append}
-use Rattle.std.proofs.lemmas.Option.{slice_get_cases}
+use Rattle.std.proofs.lemmas.Simd.{map-map}
 use Rattle.span_tables.specs.Holdings.{ArePortfolio, fits}
 use Rattle.span_tables.specs.Names.{has_repeat}
 use Rattle.span_tables.specs.Net.{AccountHoldings, holdings_of, net_of}
@@ -27,23 +27,17 @@ use Rattle.session.specs.declared.refusals.Refusal.{Refusal}
 use Rattle.session.specs.near.Answering.{is_memory}
 use Rattle.session.specs.near.Carried.{AreCarried, AreMoved, number_of, numbers_in, renumbered}
 use Rattle.session.specs.near.Kept.{AreOnce}
-use Rattle.session.proofs.CarriedLemmas.{under_is}
+use Rattle.session.proofs.CarriedLemmas.{contract_at, under_is}
 use Rattle.session.proofs.SessionLemmas.{if_either}
 
 module _ (old new : List Contract) where
   -- the number of a holding's contract
   pub number_read : (h : Holding) (d : Option ℕ) → h.contract < length old
       → get_or (numbers_in old new) h.contract d ≡ number_of new (contract_of old h)
-  number_read h d lt = by (slice_get_cases old h.contract).1
-    where
-      by : ((x : Contract) × (h.contract < length old) × (slice_get old h.contract ≡ Some x) × (get_or old h.contract x ≡ x))
-          ⊎ ((length old ≤ h.contract) × (slice_get old h.contract ≡ None))
-          → get_or (numbers_in old new) h.contract d ≡ number_of new (contract_of old h)
-      by (inl found) =
-          get_or-map (λ (x : Contract). number_of new x.id) old h.contract (found.0) d lt
-          ∙ ap (λ (x : Contract). number_of new x.id) found.3
-          ∙ sym (ap (λ o. number_of new (unwrap_or (option_map (λ (x : Contract). x.id) o) [])) found.2)
-      by (inr past) = absurd (omega (arith, lt, past.0))
+  number_read h d lt =
+      let at = contract_at old h lt in
+      get_or-map (λ (x : Contract). number_of new x.id) old h.contract at.0 d lt
+      ∙ ap (λ (x : Contract). number_of new x.id) at.2 ∙ sym (ap (number_of new) at.3)
 
   -- a contract is unknown if it has no number
   unknown_is : (r : PositionRecord) → is_unknown new r ≡ not (is_some (number_of new r.contract))
@@ -129,14 +123,10 @@ module _ (old new : List Contract) where
       All-map (λ (p : AccountHoldings). fits (length new) p.holdings ≡ true) (under_contracts old new) ps
       (λ k d lt. let p = get_or ps k d in held_fit (λ n x. net_of (held_records old p) p.account x.id) 0 (length new) new (omega arith))
 
-  names_kept : (ps : List AccountHoldings)
-      → map (λ (p : AccountHoldings). p.account) (map (under_contracts old new) ps) ≡ map (λ p. p.account) ps
-  names_kept [] = refl
-  names_kept (p ∷ ps) = ap (λ names. p.account ∷ names) (names_kept ps)
-
   -- and they are distinct
   pub under_once : (ps : List AccountHoldings) → AreOnce ps → AreOnce (map (under_contracts old new) ps)
-  under_once ps once = subst (IsDistinct bytes_eq) (sym (names_kept ps)) once
+  under_once ps once =
+      subst (IsDistinct bytes_eq) (sym (map-map (λ (p : AccountHoldings). p.account) (under_contracts old new) ps)) once
 
   module _ (all : List AccountHoldings) where
     -- at first no account is carried over
@@ -147,10 +137,6 @@ module _ (old new : List Contract) where
       -- the next account's first lost holding is in front of the holdings of accounts that are left
       lost_is : lost_record old new all ≡ option_or (find (is_unknown new) (held_records old p)) (lost_record old new left)
       lost_is = so_far.lost ∙ find-append (is_unknown new) (held_records old p) (flat_map (held_records old) left)
-
-      -- it fits
-      pub next_fits : fits (length old) p.holdings ≡ true
-      next_fits = so_far.fit 0 p (omega arith)
 
       -- it is carried over, if the parameter set has its contracts
       pub one_carried : find (is_unknown new) (held_records old p) ≡ None

@@ -1,8 +1,8 @@
 -- The lines of position records are read as these records.
-use Rattle.std.proofs.Common.{◌≡◌, ◌∙◌, ◌⊎◌, inl, inr, ℕ, zero, suc, ◌<◌, ◌≤◌, Bool, true, false, cond, ◌&&◌, ◌==◌}
-use Rattle.std.proofs.Common.{List, [], ◌∷◌, ◌++◌, flat_map, length, map, Some, None, Ok, refl, sym, ap, subst, arith, slice_get}
+use Rattle.std.proofs.Common.{◌≡◌, ◌∙◌, ◌⊎◌, inl, inr, ℕ, zero, suc, ◌<◌, ◌≤◌, true, false, ◌==◌}
+use Rattle.std.proofs.Common.{List, [], ◌∷◌, ◌++◌, length, map, Some, Ok, refl, sym, ap, subst, arith, slice_get}
 use Rattle.std.proofs.Common.{append_assoc}
-use Rattle.std.specs.Prelude.{ℤ, All, nat_abs, nat_le, nat_lt, negsuc, option_map, pos, unwrap_or}
+use Rattle.std.specs.Prelude.{ℤ, All, nat_abs, nat_lt, negsuc, option_map, pos, unwrap_or}
 use Rattle.std.specs.Fmt.{signed_decimal}
 use Rattle.std.specs.List.{AllByRecursion, list_all}
 use Rattle.std.proofs.lemmas.Bool.{and_parts, le-leb, ltb-true}
@@ -10,16 +10,16 @@ use Rattle.std.proofs.lemmas.Bool.Decides.{nat_tests}
 use Rattle.std.proofs.lemmas.List.{append-nil, length-map}
 use Rattle.std.proofs.lemmas.List.Elements.{All-head, All-tail}
 use Rattle.csv.specs.Reading.{strip_bom}
-use Rattle.csv.specs.declared.parser.State.TheVariants as state
-use Rattle.span_csv.specs.PositionFaults.{position_faults, positions_of, record_fault}
-use Rattle.span_csv.specs.Records.{Fields, is_within, position_record, records_of}
-use Rattle.span_csv.specs.near.Pieces.{piece_of, records_together}
-use Rattle.span_csv.specs.near.Rows.{rows, rows_in}
+use Rattle.span_csv.specs.PositionFaults.{is_formed, position_faults, positions_of, record_fault}
+use Rattle.span_csv.specs.Records.{is_within, position_record, records_of}
+use Rattle.span_csv.specs.near.Rows.{rows_in}
 use Rattle.span_csv.proofs.CutLemmas.{records_are}
-use Rattle.span_csv.proofs.PieceLaws.{together_are}
+use Rattle.span_csv.proofs.PieceLaws.{AreFormed, free_behind}
+use Rattle.span_csv.proofs.PlainLines.{fields_read}
 use Rattle.span_money.specs.LineFields.{line}
 use Rattle.span_money.specs.Numbers.{whole_number}
 use Rattle.span_money.proofs.TextLaws.{read_back}
+use Rattle.span_tables.specs.Faults.{all_faults, first_of, ok_unless}
 use Rattle.span_tables.specs.Holdings.{fits}
 use Rattle.span_tables.specs.Names.{is_name, is_name_byte}
 use Rattle.span_tables.specs.Net.{AccountHoldings, accounts_of}
@@ -27,88 +27,15 @@ use Rattle.span_tables.specs.declared.limits.TheConstants.{MAX_ACCOUNTS, MAX_NET
 use Rattle.span_tables.specs.declared.portfolios.Holding.{Holding}
 use Rattle.span_tables.specs.declared.records.Contract.{Contract}
 use Rattle.span_tables.specs.declared.records.PositionRecord.{PositionRecord}
-use Rattle.explanation.proofs.ReadLemmas.{IsAbove, signed_above}
+use Rattle.span_tables.proofs.FaultLaws.{first_fault_free}
 use Rattle.statement_text.specs.Statement.{accepted_of, statement_of, statement_text}
-use Rattle.session.specs.Accounts.{account_records, flat_records, held_record, position_records}
+use Rattle.session.specs.Accounts.{account_records, held_record, position_records}
 use Rattle.session.specs.Answers.{State, opened}
 use Rattle.session.specs.Conversations.{Turn, state_behind}
-use Rattle.session.specs.Positions.{position_line, position_lines}
+use Rattle.session.specs.Positions.{position_lines}
 use Rattle.session.specs.near.KeptStates.{IsKeptAccount, IsKeptState}
-use Rattle.session.proofs.BoundAgainLemmas.{bound_again, names_are, statement_again}
-use Rattle.session.proofs.KeptStateLemmas.{kept_behind, numbered_fit}
-
--- ---- bytes above a comma
-
-byte_above : (b : ℕ) → is_name_byte b ≡ true → 45 ≤ b
-byte_above b h = grind (arith, nat_tests, h)
-
-bytes_above : (bytes : List ℕ) → list_all is_name_byte bytes ≡ true → IsAbove bytes
-bytes_above [] h = tt
-bytes_above (b ∷ bs) h =
-    let parts = and_parts (is_name_byte b) (list_all is_name_byte bs) h in (byte_above b parts.0, bytes_above bs parts.1)
-
-byte_below : (b : ℕ) → is_name_byte b ≡ true → b ≤ 95
-byte_below b h = grind (arith, nat_tests, h)
-
--- the bytes of a name are above a comma
-name_above : (bytes : List ℕ) → is_name bytes ≡ true → IsAbove bytes
-name_above bytes h =
-    bytes_above bytes (and_parts (nat_le 1 (length bytes) && nat_le (length bytes) 16) (list_all is_name_byte bytes) h).1
-
--- a byte that ends no field and no line, and opens no quote
-record Joins (b : ℕ) : Type 0 where
-  comma : (b == 44) ≡ false
-  carriage : (b == 13) ≡ false
-  feed : (b == 10) ≡ false
-  quote : (b == 34) ≡ false
-
-joins : (b : ℕ) → 45 ≤ b → Joins b
-joins b le = record {
-  comma = grind (arith, nat_tests, le);
-  carriage = grind (arith, nat_tests, le);
-  feed = grind (arith, nat_tests, le);
-  quote = grind (arith, nat_tests, le);
-}
-
--- ---- fields and lines
-
--- such bytes are appended to the current field
-joined : (text rest : List ℕ) (fields : Fields) (field : List ℕ) → IsAbove text
-    → rows state.InField fields field (text ++ rest) ≡ rows state.InField fields (field ++ text) rest
-joined [] rest fields field above = ap (λ f. rows state.InField fields f rest) (sym (append-nil field))
-joined (b ∷ text) rest fields field above =
-    let j = joins b above.0 in
-    rw (j.comma, j.carriage, j.feed)
-    (joined text rest fields (field ++ b ∷ []) above.1
-    ∙ ap (λ f. rows state.InField fields f rest) (append_assoc field (b ∷ []) text))
-
-field_joined : (b : ℕ) (text rest : List ℕ) (fields : Fields) → IsAbove (b ∷ text)
-    → rows state.StartField fields [] (b ∷ (text ++ rest)) ≡ rows state.InField fields (b ∷ text) rest
-field_joined b text rest fields above =
-    let j = joins b above.0 in rw (j.comma, j.carriage, j.feed, j.quote) (joined text rest fields (b ∷ []) above.1)
-
--- a comma ends a field
-field_ends : (text rest : List ℕ) (fields : Fields) → IsAbove text
-    → rows state.StartField fields [] (text ++ 44 ∷ rest) ≡ rows state.StartField (fields ++ text ∷ []) [] rest
-field_ends [] rest fields above = refl
-field_ends (b ∷ text) rest fields above = field_joined b text (44 ∷ rest) fields above
-
--- a line feed ends a record
-line_ends : (text rest : List ℕ) (fields : Fields) → IsAbove text
-    → rows state.StartField fields [] (text ++ 10 ∷ rest) ≡ (fields ++ text ∷ []) ∷ rows_in rest
-line_ends [] rest fields above = refl
-line_ends (b ∷ text) rest fields above = field_joined b text (10 ∷ rest) fields above
-
--- a line that begins with a name
-named_line : (name rest : List ℕ) → is_name name ≡ true
-    → rows_in (name ++ 44 ∷ rest) ≡ rows state.StartField (name ∷ []) [] rest
-named_line [] rest is = cc
-named_line (b ∷ name) rest is =
-    let above = name_above (b ∷ name) is in
-    line_begins ∙ field_ends (b ∷ name) rest [] above
-  where
-    line_begins : rows_in (b ∷ (name ++ 44 ∷ rest)) ≡ rows state.StartField [] [] (b ∷ (name ++ 44 ∷ rest))
-    line_begins = let j = joins b (name_above (b ∷ name) is).0 in rw (j.carriage, j.feed) refl
+use Rattle.session.proofs.BoundAgainLemmas.{account_shown, bound_again, names_back, state_bound, statement_again}
+use Rattle.session.proofs.KeptStateLemmas.{kept_behind}
 
 -- ---- position records
 
@@ -133,20 +60,18 @@ line_parts account contract text rest =
     ∙ append_assoc contract (44 ∷ (text ++ [])) (10 ∷ rest)
     ∙ ap (λ t. contract ++ 44 ∷ (t ++ 10 ∷ rest)) (append-nil text))
 
--- the line of a record is read as its fields
-line_read : (p : PositionRecord) (rest : List ℕ) → IsWritable p
-    → rows_in (position_line p ++ rest) ≡ fields_of_record p ∷ rows_in rest
-line_read p rest good =
-    let text = signed_decimal p.quantity in
-    ap rows_in (line_parts p.account p.contract text rest)
-    ∙ named_line p.account (p.contract ++ 44 ∷ (text ++ 10 ∷ rest)) good.account
-    ∙ field_ends p.contract (text ++ 10 ∷ rest) (p.account ∷ []) (name_above p.contract good.contract)
-    ∙ line_ends text rest (p.account ∷ p.contract ∷ []) (signed_above p.quantity)
+-- the quantity of such a record is read as a number
+quantity_read : (p : PositionRecord) → IsWritable p → whole_number (signed_decimal p.quantity) ≡ Some p.quantity
+quantity_read p good = let small = good.small in read_back p.quantity (omega (arith, small))
 
+-- the lines of records are read as their fields
 lines_read : (ps : List PositionRecord) → AllByRecursion IsWritable ps → rows_in (position_lines ps) ≡ map fields_of_record ps
 lines_read [] good = refl
 lines_read (p ∷ ps) good =
-    line_read p (position_lines ps) good.0 ∙ ap (λ rest. fields_of_record p ∷ rest) (lines_read ps good.1)
+    let text = signed_decimal p.quantity in
+    ap rows_in (line_parts p.account p.contract text (position_lines ps))
+    ∙ fields_read p.account p.contract text (position_lines ps) p.quantity good.0.account good.0.contract (quantity_read p good.0)
+    ∙ ap (λ rest. fields_of_record p ∷ rest) (lines_read ps good.1)
 
 -- bytes that begin with a name do not begin with a byte order mark
 unmarked : (name rest : List ℕ) → is_name name ≡ true → strip_bom (name ++ rest) ≡ name ++ rest
@@ -154,14 +79,15 @@ unfolding strip_bom
 unmarked [] rest is = cc
 unmarked (b ∷ name) rest is = by (name ++ rest)
   where
+    other : (b == 0xEF) ≡ false
+    other =
+        let first = (and_parts (is_name_byte b) (list_all is_name_byte name) (and_parts _ (list_all is_name_byte (b ∷ name)) is).1).0 in
+        grind (arith, nat_tests, first)
+
     by : (bytes : List ℕ) → strip_bom (b ∷ bytes) ≡ b ∷ bytes
     by [] = refl
     by (c ∷ []) = refl
-    by (c ∷ d ∷ bytes) =
-        let low : b ≤ 95 = byte_below b (and_parts (is_name_byte b) (list_all is_name_byte name) (and_parts (nat_le 1 (length (b ∷ name))
-        && nat_le (length (b ∷ name)) 16) (list_all is_name_byte (b ∷ name)) is).1).0 in
-        let other : (b == 0xEF) ≡ false = grind (arith, nat_tests, low) in
-        rw other refl
+    by (c ∷ d ∷ bytes) = rw other refl
 
 -- the records of the lines
 records_read : (ps : List PositionRecord) → AllByRecursion IsWritable ps → records_of (position_lines ps) ≡ map fields_of_record ps
@@ -185,63 +111,46 @@ within : (h : ℕ) (z : ℤ) → nat_abs z ≤ suc h → is_within (negsuc h) (p
 within h (pos n) le = le-leb n (suc h) le
 within h (negsuc n) le = (let less : n ≤ h = omega (arith, le) in rw (le-leb n h less) refl)
 
--- the fields of a record have no fault, and are read as the record
-record_free : (p : PositionRecord) → IsWritable p → record_fault [] (fields_of_record p) ≡ None
-record_free p good =
+-- the fields of a record have none of Q1 to Q4, and are read as the record
+record_formed : (p : PositionRecord) → IsWritable p → is_formed (fields_of_record p) ≡ true
+record_formed p good =
     let small = good.small in
-    let read : whole_number (signed_decimal p.quantity) ≡ Some p.quantity = read_back p.quantity (omega (arith, small)) in
+    let read = quantity_read p good in
     let range : is_within (negsuc 999999) (pos 1000000) (Some p.quantity) ≡ true = within 999999 p.quantity (omega (arith, small)) in
     rw (good.account, good.contract, read, range) refl
 
 record_back : (p : PositionRecord) → IsWritable p → position_record (fields_of_record p) ≡ p
 unfolding position_record
 record_back p good =
-    let small = good.small in
-    let read : whole_number (signed_decimal p.quantity) ≡ Some p.quantity = read_back p.quantity (omega (arith, small)) in
+    let read = quantity_read p good in
     λ i. (let it : PositionRecord = record {
       account = p.account;
       contract = p.contract;
       quantity = unwrap_or (read i) (pos 0);
     } in it)
 
--- one line is read as its record
-piece_read : (p : PositionRecord) → IsWritable p → piece_of (position_line p) ≡ Some (p ∷ [])
-unfolding positions_of position_faults
-piece_read p good =
-    let one : records_of (position_line p) ≡ fields_of_record p ∷ [] =
-    ap records_of (sym (append-nil (position_line p))) ∙ records_read (p ∷ []) (good, tt) in
-    rw (one, record_free p good) (ap (λ r. Some (r ∷ [])) (record_back p good))
+all_formed : (ps : List PositionRecord) → AllByRecursion IsWritable ps → AreFormed (map fields_of_record ps)
+all_formed [] good = tt
+all_formed (p ∷ ps) good = (record_formed p good.0, all_formed ps good.1)
 
-pieces_read : (ps : List PositionRecord) → AllByRecursion IsWritable ps
-    → map piece_of (map position_line ps) ≡ map Some (map (λ p. p ∷ []) ps)
-pieces_read [] good = refl
-pieces_read (p ∷ ps) good =
-    let here = piece_read p good.0 in
-    let rest = pieces_read ps good.1 in
+all_back : (ps : List PositionRecord) → AllByRecursion IsWritable ps → map position_record (map fields_of_record ps) ≡ ps
+all_back [] good = refl
+all_back (p ∷ ps) good =
+    let here = record_back p good.0 in
+    let rest = all_back ps good.1 in
     λ i. here i ∷ rest i
-
-all_records : (ps : List PositionRecord) → AllByRecursion IsWritable ps
-    → flat_map records_of (map position_line ps) ≡ map fields_of_record ps
-all_records [] good = refl
-all_records (p ∷ ps) good =
-    let one : records_of (position_line p) ≡ fields_of_record p ∷ [] =
-    ap records_of (sym (append-nil (position_line p))) ∙ records_read (p ∷ []) (good.0, tt) in
-    let rest = all_records ps good.1 in
-    λ i. one i ++ rest i
-
--- pieces of one record each are read together as these records
-singles : (ps : List PositionRecord) → records_together (map (λ p. p ∷ []) ps) ≡ ps
-singles [] = refl
-singles (p ∷ ps) = ap (λ rest. p ∷ rest) (singles ps)
 
 -- the lines of records are read as these records
 positions_again : (ps : List PositionRecord) → AllByRecursion IsWritable ps → length (accounts_of ps) ≤ MAX_ACCOUNTS
     → positions_of (position_lines ps) ≡ Ok ps
+unfolding positions_of position_faults
 positions_again ps good few =
-    together_are (position_lines ps) (map position_line ps) (map (λ p. p ∷ []) ps) (accounts_of ps)
-    (pieces_read ps good) (all_records ps good ∙ sym (records_read ps good))
-    (record { accounts_are = ap accounts_of (sym (singles ps)); few = few })
-    ∙ ap Ok (singles ps)
+    let rows = map fields_of_record ps in
+    let back = all_back ps good in
+    let free = free_behind [] rows refl (all_formed ps good) (subst (λ qs. length (accounts_of qs) ≤ MAX_ACCOUNTS) (sym back) few) in
+    ap (λ rs. ok_unless (first_of (all_faults record_fault rs)) (map position_record rs)) (records_read ps good)
+    ∙ ap (λ o. ok_unless o (map position_record rows)) (first_fault_free record_fault [] rows free)
+    ∙ ap Ok back
 
 -- ---- the records of a kept state
 
@@ -266,48 +175,35 @@ module _ (contracts : List Contract) (named : AllByRecursion (λ x. is_name x.id
         held_writable account is hs parts.1 (All-tail (λ (x : Holding). nat_abs x.net ≤ MAX_NET) h hs nets),
       )
 
-  flat_writable : (account : List ℕ) → is_name account ≡ true → (xs : List Contract) → AllByRecursion (λ x. is_name x.id ≡ true) xs
-      → AllByRecursion IsWritable (flat_records xs account)
-  flat_writable account is [] all = tt
-  flat_writable account is (x ∷ xs) all = (record { account = is; contract = all.0; small = omega arith }, tt)
-
-  own_writable : (p : AccountHoldings) → IsKeptAccount contracts p → AllByRecursion IsWritable (account_records contracts p)
-  own_writable p kept = by (length p.holdings == 0)
-    where
-      by : (b : Bool) → AllByRecursion IsWritable
-          (cond b (flat_records contracts p.account) (map (held_record contracts p.account) p.holdings))
-      by true = flat_writable p.account kept.named contracts named
-      by false =
-          held_writable p.account kept.named p.holdings (numbered_fit contracts p.holdings kept.numbered) kept.portfolio.nets
-
   both_writable : (ps qs : List PositionRecord) → AllByRecursion IsWritable ps → AllByRecursion IsWritable qs
       → AllByRecursion IsWritable (ps ++ qs)
   both_writable [] qs all others = others
   both_writable (p ∷ ps) qs all others = (all.0, both_writable ps qs all.1 others)
 
   -- all records of kept accounts can be written and read again
-  all_writable : (ps : List AccountHoldings) → AllByRecursion (IsKeptAccount contracts) ps
+  all_writable : 0 < length contracts → (ps : List AccountHoldings) → AllByRecursion (IsKeptAccount contracts) ps
       → AllByRecursion IsWritable (position_records contracts ps)
-  all_writable [] kept = tt
-  all_writable (p ∷ ps) kept =
-      both_writable (account_records contracts p) (position_records contracts ps) (own_writable p kept.0) (all_writable ps kept.1)
+  all_writable some [] kept = tt
+  all_writable some (p ∷ ps) kept =
+      let own = account_shown contracts p some kept.0 in
+      both_writable (account_records contracts p) (position_records contracts ps)
+      (subst (AllByRecursion IsWritable) (sym own.are)
+      (held_writable p.account (kept.0).named (own.first ∷ own.others) own.fit own.small)) (all_writable some ps kept.1)
 
 -- the answer to POSITIONS in a kept state is read as its records
 pub records_again : (s : State) → IsKeptState s → (0 < length s.tables.contracts) ⊎ (s.accounts ≡ [])
     → positions_of (position_lines (position_records s.tables.contracts s.accounts))
     ≡ Ok (position_records s.tables.contracts s.accounts)
 records_again s kept some =
-    positions_again (position_records s.tables.contracts s.accounts) (all_writable s.tables.contracts kept.named s.accounts kept.accounts)
-    (by some)
+    let records = position_records s.tables.contracts s.accounts in
+    let names = names_back s.tables.contracts s.accounts records (state_bound s kept some) in
+    positions_again records (by some)
+    (subst (λ n. n ≤ MAX_ACCOUNTS) (sym (ap length names ∙ length-map s.accounts (λ p. p.account))) kept.few)
   where
     by : (0 < length s.tables.contracts) ⊎ (s.accounts ≡ [])
-        → length (accounts_of (position_records s.tables.contracts s.accounts)) ≤ MAX_ACCOUNTS
-    by (inl some) =
-        let names = names_are s.tables.contracts some s.accounts kept.once in
-        let few = kept.few in
-        subst (λ n. n ≤ MAX_ACCOUNTS) (sym (ap length names ∙ length-map s.accounts (λ p. p.account))) few
-    by (inr none) =
-        subst (λ ps. length (accounts_of (position_records s.tables.contracts ps)) ≤ MAX_ACCOUNTS) (sym none) (omega arith)
+        → AllByRecursion IsWritable (position_records s.tables.contracts s.accounts)
+    by (inl some) = all_writable s.tables.contracts kept.named some s.accounts kept.accounts
+    by (inr none) = subst (λ ps. AllByRecursion IsWritable (position_records s.tables.contracts ps)) (sym none) tt
 
 -- therefore a session over the answer to POSITIONS opens with the same state
 pub opened_again : (params positions current : List ℕ) (s : State) (turns : List Turn) → opened params positions ≡ Ok s

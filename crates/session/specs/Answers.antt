@@ -3,15 +3,15 @@ use Rattle.std.specs.Prelude.{ℕ, ◌+◌, ◌*◌, Bool, not, ◌&&◌, nat_le
 use Rattle.std.specs.Prelude.{codes, Option, Some, None, is_some, Result, Ok, Err}
 use Rattle.span_money.specs.LineFields.{line}
 use Rattle.span_csv.specs.PositionFaults.{positions_of}
-use Rattle.span_tables.specs.Faults.{ok_unless}
 use Rattle.span_tables.specs.Net.{AccountHoldings}
+use Rattle.span_tables.specs.Orders.{holdings_among}
 use Rattle.span_tables.specs.Tables.{AcceptedTables}
 use Rattle.span_tables.specs.declared.limits.TheConstants.{MAX_ACCOUNTS}
-use Rattle.span_tables.specs.declared.records.OrderRecord.{OrderRecord}
 use Rattle.span_tables.specs.declared.records.PositionRecord.{PositionRecord}
-use Rattle.binding.specs.OrderBinding.{TriedOrder, order_bind_fault, trade_record, tried_order}
-use Rattle.binding.specs.declared.faults.OrderBindFault.{OrderBindFault}
-use Rattle.binding.specs.declared.faults.OrderBindFault.TheVariants as bind
+use Rattle.binding.specs.OrderBinding.{TriedOrder}
+use Rattle.binding.specs.Trades.{traded}
+use Rattle.binding.specs.declared.faults.BindFault.{BindFault}
+use Rattle.binding.specs.declared.faults.BindFault.TheVariants as bind
 use Rattle.plan_ir.specs.Figures.{option_value_of}
 use Rattle.sources.specs.Files.{File}
 use Rattle.sources.specs.declared.ReadFault.TheVariants as read
@@ -59,56 +59,55 @@ lines_of s text (Some p) = unchanged s (text s.tables p)
 
 -- ---- trades
 
--- trades as the records of an order of an account
-abbrev pub trade_records : List ℕ → List ℕ → List Trade → List OrderRecord
-trade_records order account trades = map (trade_record order account) trades
-
--- trades evaluated on the accounts of a state, like the only order of an order file, or their fault
-abbrev pub tried : State → List ℕ → List ℕ → List Trade → Result TriedOrder OrderBindFault
-tried s order account trades =
-    ok_unless (order_bind_fault s.tables.contracts s.accounts (trade_records order account trades))
-    (tried_order s.tables.contracts s.accounts (trade_records order account trades) order)
+-- the portfolio of an account of a state after trades, or their fault
+abbrev pub tried : State → List ℕ → List Trade → Result AccountHoldings BindFault
+tried s account trades = traded s.tables.contracts (holdings_among s.accounts account) account trades
 
 -- The refusal of trades that do not fit, for a request with this many names before its trades. The fault has the number
 -- of a trade, from 1.
-abbrev pub unfit : ℕ → OrderBindFault → Refused
-unfit names (bind.UnknownContract at order) = refused.UnknownContract (names + 2 * at)
-unfit names (bind.NetOutOfRange at order) = refused.NetOutOfRange (names + 2 * at)
-unfit names (bind.TooManyHeld at order) = refused.TooManyHeld (names + 1)
+abbrev pub unfit : ℕ → BindFault → Refused
+unfit names (bind.UnknownContract at account) = refused.UnknownContract (names + 2 * at)
+unfit names (bind.NetOutOfRange at account) = refused.NetOutOfRange (names + 2 * at)
+unfit names (bind.TooManyHeld at account) = refused.TooManyHeld (names + 1)
 unfit names bind.OutOfMemory = refused.Memory
 
 -- the answer to trades that fit, or the refusal of trades that do not, for a request with this many names before its
 -- trades
-abbrev pub if_fit : ℕ → (TriedOrder → Answered) → Result TriedOrder OrderBindFault → Result Answered Refused
-if_fit names answer (Ok o) = Ok (answer o)
+abbrev pub if_fit : ℕ → (AccountHoldings → Answered) → Result AccountHoldings BindFault → Result Answered Refused
+if_fit names answer (Ok after) = Ok (answer after)
 if_fit names answer (Err e) = Err (unfit names e)
 
+-- an order on an account of a state, from the account's portfolio after it
+abbrev pub order_on : State → List ℕ → List ℕ → AccountHoldings → TriedOrder
+order_on s order account after =
+    record { order = order; before = record { account = account; holdings = holdings_among s.accounts account }; after = after }
+
 -- the answer to a TRY: the lines of the order; the state is unchanged
-abbrev pub tried_answer : State → TriedOrder → Answered
-tried_answer s o = record { lines = order_text s.tables o; state = s }
+abbrev pub tried_answer : State → List ℕ → List ℕ → AccountHoldings → Answered
+tried_answer s order account after = record { lines = order_text s.tables (order_on s order account after); state = s }
 
 -- the last line of an account: its total
 abbrev pub total_text : AcceptedTables → AccountHoldings → List ℕ
 total_text t p = line (total_line p.account t.set_id (total_numbers t (total_of t p) (option_value_of t p.holdings)))
 
--- the answer to trades that were done: the account's total after the trades, and a state in which it has its new
--- holdings
-abbrev pub filled_answer : State → TriedOrder → Answered
-filled_answer s o = record {
-  lines = total_text s.tables o.after;
-  state = record { tables = s.tables; accounts = with_account s.accounts o.after };
-}
+-- a state in which an account has its new holdings
+abbrev pub with_portfolio : State → AccountHoldings → State
+with_portfolio s after = record { tables = s.tables; accounts = with_account s.accounts after }
+
+-- the answer to trades that were done: the account's total after the trades
+abbrev pub filled_answer : State → AccountHoldings → Answered
+filled_answer s after = record { lines = total_text s.tables after; state = with_portfolio s after }
 
 -- there is no room for an account: it is not known, and there are as many accounts as the limit allows
 abbrev pub has_no_place : State → List ℕ → Bool
 has_no_place s account = not (is_some (account_named s.accounts account)) && nat_le MAX_ACCOUNTS (length s.accounts)
 
--- the answer to trades that were done; they are bound as an order with the account's name
+-- the answer to trades that were done
 abbrev pub fill_answer : State → List ℕ → List Trade → Result Answered Refused
 fill_answer s account trades =
     if has_no_place s account
     then Err refused.TooManyAccounts
-    else if_fit (names_of word.Fill) (filled_answer s) (tried s account account trades)
+    else if_fit (names_of word.Fill) (filled_answer s) (tried s account trades)
 
 -- ---- another parameter set
 
@@ -153,7 +152,7 @@ answer_to s file asked.Margin = unchanged s (statement_text s.tables s.accounts)
 answer_to s file (asked.MarginOf account) = lines_of s row_text (account_named s.accounts account)
 answer_to s file (asked.Explain account) = lines_of s account_text (account_named s.accounts account)
 answer_to s file (asked.Try order account trades) =
-    if_fit (names_of word.Try) (tried_answer s) (tried s order account trades)
+    if_fit (names_of word.Try) (tried_answer s order account) (tried s account trades)
 answer_to s file (asked.Fill account trades) = fill_answer s account trades
 answer_to s file (asked.Set name) = set_answer s name file
 answer_to s file asked.Positions = unchanged s (position_lines (position_records s.tables.contracts s.accounts))

@@ -1,5 +1,5 @@
 -- A whole conversation: the answers to a list of requests, one after the other.
-use Rattle.std.specs.Prelude.{ℕ, ◌+◌, Bool, if◌then◌else◌, List, [], ◌∷◌, ◌++◌, All, filter_map, map, codes, decimal}
+use Rattle.std.specs.Prelude.{ℕ, ◌+◌, Bool, ◌&&◌, ◌||◌, if◌then◌else◌, List, [], ◌∷◌, ◌++◌, All, filter_map, map, codes, decimal}
 use Rattle.std.specs.Prelude.{◌≡◌, ◌⊎◌, Option, Some, None, IfSome, Result, Ok, Err, false, true, is_ok, is_some}
 use Rattle.span_money.specs.LineFields.{Line, line}
 use Rattle.desks.specs.Events.{Event, Asked, Told}
@@ -7,6 +7,7 @@ use Rattle.desks.specs.declared.desk.DeskFault.{DeskFault}
 use Rattle.desks.specs.declared.desk.DeskFault.TheVariants as desk
 use Rattle.sources.specs.Files.{File, ReadGives}
 use Rattle.span_tables.specs.declared.records.PositionRecord.{PositionRecord}
+use Rattle.binding.specs.Trades.{booked}
 use Rattle.binding.specs.declared.trades.Trade.{Trade}
 use Rattle.sources.specs.Reads.{ReadsAll}
 use Rattle.statement.specs.Counts.{counts_line}
@@ -133,7 +134,7 @@ numbered_from n (answer ∷ answers) = answer_text n answer ∷ numbered_from (n
 
 -- the position records of trades of an account
 abbrev pub booked_records : List ℕ → List Trade → List PositionRecord
-booked_records account trades = map (λ t. record { account = account; contract = t.contract; quantity = t.quantity }) trades
+booked_records account trades = map (booked account) trades
 
 -- the position records that a request books, if it is a FILL
 abbrev pub booked_by : Result asked.Asked RequestFault → List PositionRecord
@@ -151,6 +152,20 @@ booked_in s (turn ∷ turns) =
 abbrev pub is_set : Result asked.Asked RequestFault → Bool
 is_set (Ok (asked.Set name)) = true
 is_set _ = false
+
+-- a SET was accepted in this turn
+abbrev pub is_new_set : State → Turn → Bool
+is_new_set s turn = is_ok (answer_of s turn) && is_set (request_on turn.request)
+
+-- a SET was accepted in one of these turns
+abbrev pub has_new_set : State → List Turn → Bool
+has_new_set s [] = false
+has_new_set s (turn ∷ turns) = is_new_set s turn || has_new_set (state_after s (answer_of s turn)) turns
+
+-- a request may change the state: it is a FILL or a SET
+abbrev pub may_change : Result asked.Asked RequestFault → Bool
+may_change (Ok (asked.Fill account trades)) = true
+may_change request = is_set request
 
 -- answer 0, which opens a session
 abbrev pub opening_text : State → List ℕ

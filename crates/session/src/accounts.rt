@@ -5,7 +5,8 @@ ghost use Rattle.session.specs.Refusals.{refused_by};
 ghost use Rattle.session.specs.Refusals as refused;
 ghost use Rattle.session.specs.near.Answering.{is_memory};
 ghost use Rattle.session.specs.near.Kept.{AreOnce};
-ghost use Rattle.span_tables.specs.Holdings.{fits};
+ghost use Rattle.span_tables.specs.Holdings.{ArePortfolio, fits};
+ghost use Rattle.span_tables.specs.Orders.{holdings_among};
 ghost use Rattle.std.specs.Prelude.{◌≡◌, ◌++◌, [], ⊤, All, IfErr, IfOk, MatchBool, None, OnErr, OnOk, Some, length, map};
 ghost use Rattle.std.specs.Prelude.{option_copied, option_map, true};
 
@@ -14,7 +15,7 @@ use crate::positions::push_records;
 use crate::refusals::Refusal;
 use indexmap::IndexMap;
 use span_tables::name::Name;
-use span_tables::portfolios::{Portfolio, Portfolios, copied};
+use span_tables::portfolios::{Holding, Portfolio, Portfolios, copied};
 use span_tables::records::Contract;
 use span_tables::tables::Tables;
 use std::alloc::{AllocError, Global};
@@ -109,6 +110,17 @@ impl Accounts {
         ensures { option_copied result ≡ account_named self.now name.now }
     {
         self.by_name.get(name)
+    }
+
+    /// Returns the holdings of the account with this name. An unknown account holds nothing.
+    pub(crate) fn holdings_of(&self, name: &Name) -> &[Holding]
+        ensures value { result.now ≡ holdings_among self.now name.now }
+        ensures kept { ArePortfolio (holdings_among self.now name.now) }
+    {
+        match self.get(name) {
+            Some(portfolio) => portfolio.holdings(),
+            None => &[],
+        }
     }
 
     /// Replaces the portfolio of an account, or appends it if the account is new. If memory runs out, the accounts stay

@@ -17,7 +17,7 @@ ghost use Rattle.worker_pool.specs.Batches.{AllFit, FitsSet};
 use crate::accounts::Accounts;
 use crate::refusals::Refusal;
 use crate::set_in_use::SetInUse;
-use binding::faults::OrderBindFault;
+use binding::faults::BindFault;
 use binding::trades::Trade;
 use explanation::accounts::push_account;
 use span_tables::limits::MAX_ACCOUNTS;
@@ -115,20 +115,20 @@ fn field_of(names: u8, trade: usize) -> u128
 }
 
 // Why trades are rejected, for a request with this many names before its trades.
-fn unfit(names: u8, fault: OrderBindFault) -> Refusal<'static>
+fn unfit(names: u8, fault: BindFault) -> Refusal<'static>
     ensures { refused_by result ≡ unfit names fault }
 {
     match fault {
-        OrderBindFault::UnknownContract { at, .. } => Refusal::UnknownContract {
+        BindFault::UnknownContract { at, .. } => Refusal::UnknownContract {
             field: field_of(names, at),
         },
-        OrderBindFault::NetOutOfRange { at, .. } => Refusal::NetOutOfRange {
+        BindFault::NetOutOfRange { at, .. } => Refusal::NetOutOfRange {
             field: field_of(names, at),
         },
-        OrderBindFault::TooManyHeld { .. } => Refusal::TooManyHeld {
+        BindFault::TooManyHeld { .. } => Refusal::TooManyHeld {
             field: u128::from(names) + 1,
         },
-        OrderBindFault::OutOfMemory => Refusal::Memory,
+        BindFault::OutOfMemory => Refusal::Memory,
     }
 }
 
@@ -146,10 +146,15 @@ pub(crate) fn push_try(
     requires trades { AreTradable trades.now }
     ensures same { set.new ≡ set.old }
     ensures answer { Answers (λ done. state_of set.old accounts.now) result out.new.items
-        (if_fit 2 (tried_answer (state_of set.old accounts.now)) (tried (state_of set.old accounts.now) order.now account.now trades.now)) }
+        (if_fit 2 (tried_answer (state_of set.old accounts.now) order.now account.now)
+        (tried (state_of set.old accounts.now) account.now trades.now)) }
 {
-    match set.push_tried(out, accounts.get(account), order, account, trades) {
-        Ok(()) => Ok(()),
+    let held = accounts.holdings_of(account);
+    match set.after(account, held, trades) {
+        Ok(after) => {
+            set.push_change(out, order, account, held, after)?;
+            Ok(())
+        }
         Err(fault) => Err(unfit(NAMES_OF_TRY, fault)),
     }
 }
@@ -179,7 +184,8 @@ pub(crate) fn push_fill(
     if has_no_place(accounts, account) {
         return Err(Refusal::TooManyAccounts);
     }
-    match set.after(accounts.get(account), account, trades) {
+    let held = accounts.holdings_of(account);
+    match set.after(account, held, trades) {
         Ok(after) => {
             set.push_total(out, &after)?;
             Ok(after)

@@ -1,6 +1,7 @@
 //! Whole sessions: the requests of a desk, and their answers, one after the other.
 ghost use Rattle.desks.specs.Events.{Logs, told_by};
 ghost use Rattle.session.specs.Conversations.{AreFromSource, IsServed, Turn, answer_of, answer_text, opening_text, state_after};
+ghost use Rattle.session.specs.Conversations.{state_behind};
 ghost use Rattle.std.specs.Prelude.{◌≡◌, ◌⊎◌, ◌-◌, ◌^◌, [], ◌∷◌, Err, IfErr, List, None, OnOk, Some, if◌then◌else◌, length, ℕ};
 
 use crate::answer_texts::refused_memory;
@@ -41,7 +42,8 @@ fn serve_one<D: Desk, S: Sources, R: Threads + Wait + Clock + Sync, G: Gate>(
 }
 
 /// Serves a session at a desk: writes its first answer, and then answers each request before it takes the next one. The
-/// session ends with the last request, or after request 18446744073709551615.
+/// session ends with the last request, or after request 18446744073709551615. `opened` then has the state after the
+/// requests that were taken.
 pub fn run<D: Desk, S: Sources, R: Threads + Wait + Clock + Sync, G: Gate>(
     desk: &mut D,
     sources: &mut S,
@@ -51,7 +53,8 @@ pub fn run<D: Desk, S: Sources, R: Threads + Wait + Clock + Sync, G: Gate>(
     requires { opened.old.text.items ≡ opening_text opened.old.session }
     ensures served { (turns : List Turn) × AreFromSource (S.file sources.old) S.reads sources.old turns sources.new
         × IsServed opened.old.session result turns (λ events. Logs D.log desk.old events desk.new)
-        × OnOk result (D.at_end desk.new ⊎ (length turns ≡ 2 ^ 64 - 1)) }
+        × OnOk result (D.at_end desk.new ⊎ (length turns ≡ 2 ^ 64 - 1))
+        × (opened.new.session ≡ state_behind opened.old.session turns) }
     ensures input { result ≡ Err DeskFault.Input → D.cut_off desk.new }
     ensures output { result ≡ Err DeskFault.Output → D.unwritten desk.new }
 {

@@ -10,7 +10,7 @@ pub mod faults;
 pub mod laws;
 pub mod limit_digits;
 mod positions;
-pub mod refusals;
+mod refusals;
 pub mod requests;
 pub mod session;
 mod set_in_use;

@@ -16,7 +16,7 @@ pub mod OrderAccountLaws
 mod OrderLemmas
 mod OrderSteps
 pub mod PieceLaws
-mod PlainLines
+pub mod PlainLines
 mod PositionLemmas
 pub mod ProfileLaws
 mod RangeLemmas

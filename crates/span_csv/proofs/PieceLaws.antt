@@ -26,7 +26,7 @@ use Rattle.span_csv.proofs.TogetherLaws.{too_many}
 
 -- ---- records without any of Q1 to Q4
 
-abbrev AreFormed : List Fields → Type 0
+abbrev pub AreFormed : List Fields → Type 0
 AreFormed rs = AllByRecursion (λ r. is_formed r ≡ true) rs
 
 formed_both : (rs more : List Fields) → AreFormed rs → AreFormed more → AreFormed (rs ++ more)
@@ -41,7 +41,7 @@ free_all_formed before (r ∷ rs) free = (free_formed (counted before) r free.0,
 -- ---- the limit
 
 -- the accounts of these records as positions
-abbrev accounts_in : List Fields → List (List ℕ)
+abbrev pub accounts_in : List Fields → List (List ℕ)
 accounts_in rs = accounts_of (map position_record rs)
 
 -- the limit in the definition is the limit on the accounts of positions
@@ -73,7 +73,7 @@ none_is None e = refl
 none_is (Some x) e = cc
 
 -- records with none of Q1 to Q4, and no more accounts than the limit, have no fault
-free_behind : (before rs : List Fields) → counted before ≡ before → AreFormed rs → length (accounts_in (before ++ rs)) ≤ MAX_ACCOUNTS
+pub free_behind : (before rs : List Fields) → counted before ≡ before → AreFormed rs → length (accounts_in (before ++ rs)) ≤ MAX_ACCOUNTS
     → IsFaultFree record_fault before rs
 free_behind before [] all formed few = tt
 free_behind before (r ∷ rs) all formed few = (

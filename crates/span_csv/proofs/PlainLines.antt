@@ -17,7 +17,7 @@ use Rattle.csv.specs.declared.parser.State.TheVariants as state
 use Rattle.span_money.specs.Numbers.{are_digits, whole_number, without_minus}
 use Rattle.span_tables.specs.Names.{is_name, is_name_byte}
 use Rattle.span_csv.specs.Records.{Fields}
-use Rattle.span_csv.specs.near.PlainPositions.{IsPlainLine, IsPositionIn}
+use Rattle.span_csv.specs.near.PlainPositions.{IsPlainLine, IsPositionIn, line_of}
 use Rattle.span_csv.specs.near.Rows.{rows, rows_in, AreLines}
 use Rattle.span_csv.proofs.CutPlaces.{found_any}
 use Rattle.std.proofs.lemmas.Bool.Decides.{Decides-eqb, same_from_decides}
@@ -229,15 +229,21 @@ named_line (b ∷ name) rest is =
     let joins = name_joins (b ∷ name) is in
     line_begins b (name ++ 44 ∷ rest) joins.0.carriage joins.0.line ∙ field_ends (b ∷ name) rest [] joins
 
+-- two names and a number in a line are the fields of a record
+pub fields_read : (account contract text rest : List ℕ) (quantity : ℤ) → is_name account ≡ true → is_name contract ≡ true
+    → whole_number text ≡ Some quantity
+    → rows_in (line_of account contract text rest) ≡ (account ∷ contract ∷ text ∷ []) ∷ rows_in rest
+fields_read account contract text rest quantity named known number =
+    named_line account (contract ++ 44 ∷ (text ++ 10 ∷ rest)) named
+    ∙ field_ends contract (text ++ 10 ∷ rest) (account ∷ []) (name_joins contract known)
+    ∙ line_ends text rest (account ∷ contract ∷ []) (number_joins text quantity number)
+
 -- a plain line is a position record
 pub plain_line : (account contract : List ℕ) (quantity : ℤ) (rest bytes : List ℕ) → is_name account ≡ true
     → IsPlainLine account contract quantity rest bytes → IsPositionIn account contract quantity (rows_in rest) (rows_in bytes)
 plain_line account contract quantity rest bytes named line = record {
   text = line.text;
-  rows_are = ap rows_in line.bytes_are
-      ∙ named_line account (contract ++ 44 ∷ (line.text ++ 10 ∷ rest)) named
-      ∙ field_ends contract (line.text ++ 10 ∷ rest) (account ∷ []) (name_joins contract line.named)
-      ∙ line_ends line.text rest (account ∷ contract ∷ []) (number_joins line.text quantity line.number);
+  rows_are = ap rows_in line.bytes_are ∙ fields_read account contract line.text rest quantity named line.named line.number;
   account_named = named;
   contract_named = line.named;
   number = line.number;

@@ -7,9 +7,9 @@ ghost use Rattle.std.specs.Prelude.{◌≡◌, IfOk, length, true};
 use crate::credits::{loaded, two_commodities};
 use binding::binder::Binder;
 use binding::faults::BindFault;
-use binding::orders::{OrderBinder, Orders, bind_orders};
+use binding::orders::{Orders, bind_orders};
 use binding::positions::{bind, bind_faults};
-use binding::trades::{Trade, order_of_trades};
+use binding::trades::{Trade, Trader};
 use inter_credit::credit::credit;
 use inter_credit::spreads::inter_spread;
 use inter_credit::state::InterState;
@@ -29,7 +29,7 @@ use span_tables::groups::{empty_lists, push_at};
 use span_tables::held::{Held, HeldRun, gather, gather_all};
 use span_tables::name::Name;
 use span_tables::portfolios::{Portfolio, Portfolios};
-use span_tables::raw::{RawOrders, RawPositions};
+use span_tables::raw::RawPositions;
 use span_tables::tables::Tables;
 use spread_stage::deltas::month_deltas;
 use spread_stage::months::MonthUnits;
@@ -50,7 +50,7 @@ fn calls_succeed(rt: HostRuntime) -> Result<(), Fail> {
     faults_found(&rt, alloc, &tables)?;
     let account = account_read(&rt, alloc, &tables)?;
     orders_read(&rt, alloc, &tables)?;
-    order_made(&rt, alloc, &tables)?;
+    trades_made(&rt, alloc, &tables, &account)?;
     lists_held(&rt, alloc, &tables, &account)?;
     let held = held_of(&rt, alloc, &tables, &account)?;
     spreads_of_months(&rt, alloc, &tables, &held.run())?;
@@ -256,26 +256,17 @@ fn trade(id: &[u8], quantity: i32) -> Result<Trade, Fail>
     Ok(Trade { contract, quantity })
 }
 
-// Returns the records of an order that closes the short contract and sells one of the other.
-fn closing(alloc: Global) -> Result<RawOrders, Fail> {
-    let order = Name::new(b"CLOSE").ok_or("an order")?;
-    let account = Name::new(b"X").ok_or("an account")?;
-    let mut trades = Vec::new(alloc);
-    trades.push(trade(b"FA2", 2)?)?;
-    trades.push(trade(b"FA", -1)?)?;
-    let raw = order_of_trades(alloc, &order, &account, &trades)?;
-    Ok(raw)
-}
-
-// `binding`: such an order, bound twice by the same binder.
-fn order_made(rt: &impl Abort, alloc: Global, tables: &Tables) -> Result<(), Fail> {
-    let mut binder = OrderBinder::new(alloc, tables)?;
-    let raw = closing(alloc)?;
+// `binding`: trades that close the short contract and sell one of the other, twice with the same trader.
+fn trades_made(
+    rt: &impl Abort,
+    alloc: Global,
+    tables: &Tables,
+    account: &Portfolio,
+) -> Result<(), Fail> {
+    let mut trader = Trader::new(alloc, tables)?;
+    let trades = [trade(b"FA2", 2)?, trade(b"FA", -1)?];
     for _ in 0..2 {
-        let portfolios = portfolios_read(rt, alloc, tables)?;
-        let orders = binder.bind(alloc, portfolios, &raw)?;
-        assert_eq!(rt; orders.len(), 1);
-        let after = binder.portfolio_after(alloc, &orders, 0)?;
+        let after = trader.after(alloc, account.account(), account.holdings(), &trades)?;
         assert!(rt; holds(&after, 0, 2));
     }
     Ok(())

@@ -39,8 +39,9 @@ fn push_orders(
 {
     let tables = set.tables();
     for order in first..end {
+        let name = orders.name(order);
         let before = befores.at(order);
-        Trial::new(tables, orders, order, before, &rows[order - first]).push_to(out)?;
+        Trial::new(tables, name, before, &rows[order - first]).push_to(out)?;
     }
     Ok(())
 }

@@ -1,13 +1,14 @@
 //! The lines of an order (docs/FORMATS.md, "Evaluated orders").
 ghost use Rattle.std.specs.Prelude.{◌≡◌, ◌++◌, ◌<◌, OnOk, flat_map, length, map, pos};
+ghost use Rattle.binding.specs.OrderBinding.{TriedOrder};
 ghost use Rattle.inter_credit.specs.OptionValue.{due_of};
 ghost use Rattle.span_money.specs.LineFields.{line};
 ghost use Rattle.span_money.specs.near.Fields.{field_text};
 ghost use Rattle.whatif.specs.Whatif.{change_line, change_of, changed_by, due_at, order_line, order_text};
-ghost use Rattle.whatif.specs.near.Numbers.{IsTried, change_text, changed_text, order_at};
+ghost use Rattle.whatif.specs.near.Numbers.{change_text, changed_text};
+ghost use Rattle.whatif.specs.near.Trials.{IsTried};
 
 use crate::numbers::Numbers;
-use binding::orders::Orders;
 use span_money::amounts::Money;
 use span_money::line_fields::{Field, push_line_of_numbers};
 use span_tables::name::Name;
@@ -17,26 +18,26 @@ use std::alloc::AllocError;
 use std::marker::Model;
 use step_scheduler::rows::Row;
 
-/// An order that is evaluated: its number among the orders, the numbers of its account before it, and the row after it.
-/// Its value in contracts is the tables and the order.
+/// An order that is evaluated: its name, the numbers of its account before it, and the row after it.
 #[derive(Drop)]
 pub struct Trial<'a> {
     tables: &'a Tables,
-    orders: &'a Orders,
-    number: usize,
+    order: &'a Name,
     before: &'a Numbers,
     row: &'a Row,
 }
 
 impl<'a> Model for Trial<'a> {
-    ghost use Rattle.whatif.specs.near.Numbers.{order_at};
-    ghost use Rattle.whatif.specs.near.Trials.{IsTrial, TrialView};
+    ghost use Rattle.std.specs.Prelude.{◌≡◌, length};
+    ghost use Rattle.whatif.specs.near.Trials.{TrialView};
 
     ghost Value = { TrialView };
 
-    ghost view = { λ t. record { tables = t.tables.now; order = order_at t.orders.now t.number } };
+    ghost view = { λ t.
+        record { tables = t.tables.now; order = t.order.now; before = t.before.now; after = t.row.now.portfolio } };
 
-    ghost invariant = { λ t. IsTrial t.tables.now t.orders.now t.number t.before.now t.row.now };
+    ghost invariant = { λ t. (t.row.now.set.tables ≡ t.tables.now)
+        × (length t.before.now.requirements.items ≡ length t.tables.now.commodities) };
 }
 
 // Returns the fields of a line for an amount: before, after, and after minus before.
@@ -64,51 +65,34 @@ fn push_changed(
 }
 
 impl<'a> Trial<'a> {
-    /// Creates the evaluation of the order at an index, from the numbers of its account before it and the row after it.
-    pub fn new(
-        tables: &'a Tables,
-        orders: &'a Orders,
-        number: usize,
-        before: &'a Numbers,
-        row: &'a Row,
-    ) -> Trial<'a>
-        requires order { number < length orders.now.orders }
-        requires tried { IsTried tables.now (order_at orders.now number) before.now row.now }
-        ensures tables { result.tables ≡ tables.now }
-        ensures order { result.order ≡ order_at orders.now number }
+    /// Creates the evaluation of the order of a name, from the numbers of its account before it and the row after it.
+    pub fn new(tables: &'a Tables, order: &'a Name, before: &'a Numbers, row: &'a Row) -> Trial<'a>
+        requires { (row.now.set.tables ≡ tables.now) × (length before.now.requirements.items ≡ length tables.now.commodities) }
+        ensures { result ≡ record {
+          tables = tables.now;
+          order = order.now;
+          before = before.now;
+          after = row.now.portfolio;
+        } }
     {
         Trial {
             tables,
-            orders,
-            number,
+            order,
             before,
             row,
         }
-    }
-
-    // Returns the name of the order.
-    fn order(&self) -> &Name
-        ensures { result.now ≡ self.now.order.order }
-    {
-        self.orders.name(self.number)
-    }
-
-    // Returns the account of the order.
-    fn account(&self) -> &Name
-        ensures { result.now ≡ self.now.order.after.account }
-    {
-        self.row.account()
     }
 
     // Appends the line of the commodity of a number, if the order changes its requirement.
     #[tactic(auto, unfolding(crate::specs::Whatif::change_line))]
     fn push_change(&self, out: &mut Vec<u8>, commodity: usize) -> Result<(), AllocError>
         requires { commodity < length self.now.tables.commodities }
-        ensures { OnOk result (out.new.items ≡ out.old.items ++ change_text self.now.tables self.now.order commodity) }
+        ensures { (o : TriedOrder) → IsTried self.now o
+            → OnOk result (out.new.items ≡ out.old.items ++ change_text self.now.tables o commodity) }
     {
         let ids = [
-            Field::Bytes(self.order().as_bytes()),
-            Field::Bytes(self.account().as_bytes()),
+            Field::Bytes(self.order.as_bytes()),
+            Field::Bytes(self.row.account().as_bytes()),
             Field::Bytes(self.tables.set_id().as_bytes()),
             Field::Bytes(self.tables.commodities()[commodity].id.as_bytes()),
         ];
@@ -118,8 +102,8 @@ impl<'a> Trial<'a> {
 
     // Appends the line of each commodity whose requirement the order changes.
     fn push_changes(&self, out: &mut Vec<u8>) -> Result<(), AllocError>
-        ensures { OnOk result (out.new.items ≡ out.old.items
-            ++ flat_map (λ c. line (change_line self.now.tables self.now.order c)) (changed_by self.now.tables self.now.order)) }
+        ensures { (o : TriedOrder) → IsTried self.now o → OnOk result (out.new.items ≡ out.old.items
+            ++ flat_map (λ c. line (change_line self.now.tables o c)) (changed_by self.now.tables o)) }
     {
         for commodity in 0..self.tables.commodities().len() {
             self.push_change(out, commodity)?;
@@ -130,7 +114,8 @@ impl<'a> Trial<'a> {
     // Returns the amount due from the account after its option value, before the order and after it, and the
     // difference.
     fn change_of_due(&self) -> [i128; 3]
-        ensures { result ≡ change_of (due_at self.now.tables self.now.order.before) (due_at self.now.tables self.now.order.after) }
+        ensures { (o : TriedOrder) → IsTried self.now o
+            → result ≡ change_of (due_at self.now.tables o.before) (due_at self.now.tables o.after) }
     {
         let before = due(self.before.total, self.before.value);
         let after = due(self.row.total(), self.row.value());
@@ -141,11 +126,12 @@ impl<'a> Trial<'a> {
     // the amount due.
     #[tactic(auto, unfolding(crate::specs::Whatif::order_line))]
     fn push_totals(&self, out: &mut Vec<u8>) -> Result<(), AllocError>
-        ensures { OnOk result (out.new.items ≡ out.old.items ++ line (order_line self.now.tables self.now.order)) }
+        ensures { (o : TriedOrder) → IsTried self.now o
+            → OnOk result (out.new.items ≡ out.old.items ++ line (order_line self.now.tables o)) }
     {
         let ids = [
-            Field::Bytes(self.order().as_bytes()),
-            Field::Bytes(self.account().as_bytes()),
+            Field::Bytes(self.order.as_bytes()),
+            Field::Bytes(self.row.account().as_bytes()),
             Field::Bytes(self.tables.set_id().as_bytes()),
         ];
         let [before, after, change] = change_of(self.before.total, self.row.total());
@@ -157,10 +143,11 @@ impl<'a> Trial<'a> {
         push_line_of_numbers(out, "ORDER", &ids, &numbers)
     }
 
-    /// Appends the lines of the order.
+    /// Appends the lines of an order with this name, these numbers of its account before it, and this portfolio after it.
     #[tactic(auto, unfolding(crate::specs::Whatif::order_text))]
     pub fn push_to(&self, out: &mut Vec<u8>) -> Result<(), AllocError>
-        ensures { OnOk result (out.new.items ≡ out.old.items ++ order_text self.now.tables self.now.order) }
+        ensures { (o : TriedOrder) → IsTried self.now o
+            → OnOk result (out.new.items ≡ out.old.items ++ order_text self.now.tables o) }
     {
         self.push_changes(out)?;
         self.push_totals(out)

@@ -5,10 +5,10 @@ use Rattle.plan_compiler.specs.Compiled.{SetView}
 use Rattle.span_tables.specs.Net.{AccountHoldings}
 use Rattle.session.specs.Answers.{State}
 
--- the runs are under the parameter set, and the binder has its contracts
-pub record IsInUse (set runs : SetView) (binder : List (List ℕ)) : Type 0 where
+-- the runs are under the parameter set, and the trader has its contracts
+pub record IsInUse (set runs : SetView) (trader : List (List ℕ)) : Type 0 where
   pub under : runs ≡ set
-  pub contracts : binder ≡ ids_of set.tables.contracts
+  pub contracts : trader ≡ ids_of set.tables.contracts
 
 -- the state with a parameter set and accounts
 abbrev pub state_of : SetView → List AccountHoldings → State

@@ -1,5 +1,6 @@
 -- The definitions that a proof unfolds to compute on literals.
 use Rattle.std.specs.Prelude.{⊤}
+use Rattle.binding.specs.Trades.{trade_fault, traded}
 use Rattle.explanation.specs.near.OnLiterals.{on_literals as explanation_on_literals}
 use Rattle.session.specs.Answers.{answer_to, opened}
 use Rattle.session.specs.Conversations.{session_of}
@@ -9,5 +10,5 @@ use Rattle.whatif.specs.near.OnLiterals.{on_literals as whatif_on_literals}
 
 -- all names that a computation on literals unfolds
 unfoldable pub on_literals : ⊤
-unfolding explanation_on_literals whatif_on_literals counts_line request_of answer_to opened session_of
+unfolding explanation_on_literals whatif_on_literals trade_fault traded counts_line request_of answer_to opened session_of
 on_literals = tt

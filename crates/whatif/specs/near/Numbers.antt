@@ -35,12 +35,6 @@ no_order = record { order = []; before = record { account = []; holdings = [] };
 abbrev pub order_at : TriedOrders → ℕ → TriedOrder
 order_at tried i = slice_index_or tried.orders i no_order
 
--- an order's account has these numbers before the order, and this row after it
-pub record IsTried (t : AcceptedTables) (o : TriedOrder) (before : Numbers) (row : RowView) : Type 0 where
-  pub tables_are : row.set.tables ≡ t
-  pub before_is : AreNumbers t o.before.holdings before
-  pub after_is : row.portfolio ≡ o.after
-
 -- the line of a change with these ids, or nothing if there is no change
 abbrev pub changed_text : List (List ℕ) → ℤ → ℤ → List ℕ
 changed_text ids before after =

@@ -1,17 +1,20 @@
 -- An order that is evaluated, with the data for its lines.
-use Rattle.std.specs.Prelude.{◌<◌, ℕ, length}
+use Rattle.std.specs.Prelude.{◌≡◌, ℕ, List}
+use Rattle.span_tables.specs.Net.{AccountHoldings}
 use Rattle.span_tables.specs.Tables.{AcceptedTables}
-use Rattle.binding.specs.OrderBinding.{TriedOrder, TriedOrders}
-use Rattle.step_scheduler.specs.Rows.{RowView}
-use Rattle.whatif.specs.near.Numbers.{IsTried, order_at}
+use Rattle.binding.specs.OrderBinding.{TriedOrder}
+use Rattle.whatif.specs.near.Numbers.{AreNumbers}
 use Rattle.whatif.specs.declared.numbers.Numbers.{Numbers}
 
--- the tables, and the order
+-- the tables, the order's name, the numbers of its account before it, and the account's portfolio after it
 pub record TrialView : Type 0 where
   pub tables : AcceptedTables
-  pub order : TriedOrder
+  pub order : List ℕ
+  pub before : Numbers
+  pub after : AccountHoldings
 
--- the order is one of the given orders, with its own numbers before it and its own row after it
-pub record IsTrial (t : AcceptedTables) (orders : TriedOrders) (number : ℕ) (before : Numbers) (row : RowView) : Type 0 where
-  pub in_range : number < length orders.orders
-  pub tried : IsTried t (order_at orders number) before row
+-- the trial is the evaluation of an order
+pub record IsTried (trial : TrialView) (o : TriedOrder) : Type 0 where
+  pub order_is : trial.order ≡ o.order
+  pub before_is : AreNumbers trial.tables o.before.holdings trial.before
+  pub after_is : trial.after ≡ o.after

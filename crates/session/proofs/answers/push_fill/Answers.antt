@@ -1,10 +1,13 @@
-use Rattle.std.proofs.Common.{◌≡◌, ◌∙◌, ◌++◌, Some, subst, sym}
-use Rattle.std.specs.Option.{option_to_list}
+use Rattle.std.proofs.Common.{◌≡◌, ◌∙◌, ◌++◌, Err, Ok, ap, subst, sym}
 use Rattle.std.specs.Prelude.{⊤, MatchBool}
-use Rattle.binding.specs.OrderBinding.{is_memory as is_bind_memory, order_bind_fault, tried_order}
-use Rattle.session.specs.Answers.{total_text, trade_records}
+use Rattle.binding.specs.Binding.{is_memory as is_bind_memory}
+use Rattle.binding.specs.Trades.{traded}
+use Rattle.session.specs.Accounts.{with_account}
+use Rattle.session.specs.Answers.{Answered, filled_answer, if_fit, total_text, tried}
+use Rattle.session.specs.Refusals.{refused_by}
+use Rattle.session.specs.near.Answering.{is_memory}
 use Rattle.session.specs.near.InUse.{state_of}
-use Rattle.session.proofs.AnswerLemmas.{filled_lines, no_place_refused, unfilled}
+use Rattle.session.proofs.AnswerLemmas.{fill_placed, no_place_refused, unfit_refused}
 use Rattle.session.proofs.answers.push_fill.Goals as goal
 
 pub returns-then-has_no_place-clause-answer : goal.returns-then-has_no_place-clause-answer
@@ -14,25 +17,28 @@ returns-then-has_no_place-clause-answer c =
 
 pub returns-in_ok-push_total-in-Ok-clause-answer : goal.returns-in_ok-push_total-in-Ok-clause-answer
 returns-in_ok-push_total-in-Ok-clause-answer c =
-    let t = c.args.set.now.tables in
+    let s = state_of c.args.set.now c.args.accounts.now in
     let account = c.args.account.now in
-    let records = trade_records account account c.args.trades.now in
-    let own = c.get.ensures in
-    filled_lines (state_of c.args.set.now c.args.accounts.now) account c.args.trades.now c.requires.trades.some
-    c.push_total.new.out.items c.in-Ok.after
-    (sym (c.has_no_place.ensures c.args.set.now) ∙ c.if-has_no_place.false)
-    (sym (λ i. order_bind_fault t.contracts (option_to_list (own i)) records) ∙ c.in-Ok.ensures.fit)
-    (c.in-Ok.ensures.after ∙ (λ i. (tried_order t.contracts (option_to_list (own i)) records account).after))
-    (c.in_ok-push_total-in-Ok.ensures.line
-    ∙ (λ i. c.requires.empty i ++ total_text (c.in-Ok.ensures.same i).tables c.in-Ok.after))
+    let lines = c.in_ok-push_total-in-Ok.ensures.line
+    ∙ (λ i. c.requires.empty i ++ total_text (c.in-Ok.ensures.same i).tables c.in-Ok.after) in
+    fill_placed s account c.args.trades.now (sym (c.has_no_place.ensures c.args.set.now) ∙ c.if-has_no_place.false)
+    ∙ ap (if_fit 1 (filled_answer s))
+    ((λ i. traded c.args.set.now.tables.contracts (sym c.holdings_of-held.ensures.value i) account c.args.trades.now)
+    ∙ c.in-Ok.ensures.after)
+    ∙ (λ i. Ok (let a : Answered = record {
+      lines = sym lines i;
+      state = record { tables = c.args.set.now.tables; accounts = with_account c.args.accounts.now c.in-Ok.after };
+    } in a))
 
 pub returns-in-Err-clause-answer : goal.returns-in-Err-clause-answer
 returns-in-Err-clause-answer c =
+    let s = state_of c.args.set.now c.args.accounts.now in
     let account = c.args.account.now in
-    let records = trade_records account account c.args.trades.now in
-    unfilled (state_of c.args.set.now c.args.accounts.now) account c.args.trades.now c.requires.trades.some c.in-Err.fault c.unfit.result
-    (sym (c.has_no_place.ensures c.args.set.now) ∙ c.if-has_no_place.false)
-    (subst (λ o. MatchBool (is_bind_memory c.in-Err.fault) ⊤
-    (order_bind_fault c.args.set.now.tables.contracts (option_to_list o) records
-    ≡ Some c.in-Err.fault)) c.get.ensures c.in-Err.ensures.unfit)
-    c.unfit.ensures
+    let trades = c.args.trades.now in
+    subst (λ answer. MatchBool (is_memory c.unfit.result) ⊤ (answer ≡ Err (refused_by c.unfit.result)))
+    (sym (fill_placed s account trades (sym (c.has_no_place.ensures c.args.set.now) ∙ c.if-has_no_place.false)))
+    (unfit_refused 1 (filled_answer s) (tried s account trades) c.in-Err.fault c.unfit.result
+    (subst (λ hs. MatchBool (is_bind_memory c.in-Err.fault) ⊤
+    (traded c.args.set.now.tables.contracts hs account trades ≡ Err c.in-Err.fault)) c.holdings_of-held.ensures.value
+    c.in-Err.ensures.after)
+    c.unfit.ensures)

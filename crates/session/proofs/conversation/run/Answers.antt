@@ -29,6 +29,7 @@ returns-in_err-tell-clause-served g c =
       no_turns (g.S.Sources.file c.args.sources.now) g.S.Sources.reads c.args.sources.now,
       inl (refl, c.in_err-tell.ensures.log),
       tt,
+      refl,
     )
 
 pub loop-number-init : goal.loop-number-init
@@ -87,4 +88,5 @@ returns-in_err-serve_one-clause-served g c =
             c.next.new.self c.serve_one.new.desk i.3 asked served.4,
       ),
       tt,
+      state_behind_more turns c.args.opened.now.session c.loop-number.opened.session c.serve_one.new.opened.session turn i.2 served.3,
     )

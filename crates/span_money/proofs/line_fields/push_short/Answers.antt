@@ -43,5 +43,6 @@ returns c =
     ∙ ap (λ k. take k (44 ∷ (digits ++ drop 16 (replicate 32 44)))) long
     ∙ take-append_seam (44 ∷ digits) (drop 16 (replicate 32 44)) in
     c.truncate.ensures.items ∙ ap (take _) (c.in_ok-extend_from_slice.ensures.items)
-    ∙ ap (λ k. take (k + (16 - (start - 1))) (c.args.out.now.items ++ take (start - 1 + 16 - (start - 1)) (drop (start - 1) text))) (c.len.ensures ∙ c.args.out.now.ok.0)
+    ∙ ap (λ k. take (k + (16 - (start - 1))) (c.args.out.now.items ++ take (start - 1 + 16 - (start - 1)) (drop (start - 1) text)))
+    (c.len.ensures ∙ c.args.out.now.ok.0)
     ∙ take-append-add c.args.out.now.items _ (16 - (start - 1)) ∙ ap (λ ys. c.args.out.now.items ++ ys) whole
