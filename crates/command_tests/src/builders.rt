@@ -1,6 +1,7 @@
 //! What the tests share: a writer that fails, and the result of a command line.
 use sources::Sources;
 use span_cli::outputs::{ErrorStream, OutputStream};
+use span_cli::serving::ServingMeans;
 use span_cli::words::run_words;
 use std::alloc::Global;
 use std::io;
@@ -32,11 +33,12 @@ pub(crate) fn run_over<S: Sources, I: Read + Drop, R: Threads + Wait + Clock + S
     words: &[&str],
     sources: &mut S,
     gate: &G,
-    input: I,
+    mut input: I,
 ) -> Given {
     let mut out = MarkedWriter::new(Vec::new(alloc));
     let mut err = MarkedWriter::new(Vec::new(alloc));
-    let status = run_words(rt, alloc, words, sources, gate, input, &mut out, &mut err);
+    let lent = ServingMeans { rt, alloc, gate };
+    let status = run_words(&lent, words, sources, &mut input, &mut out, &mut err);
     Given {
         status,
         out: out.into_inner(),

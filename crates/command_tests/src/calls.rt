@@ -7,7 +7,7 @@ use sources::{ReadFault, Sources};
 use span_cli::disk::Disk;
 use span_cli::memory::InMemory;
 use span_cli::reading::{read_file, read_within};
-use span_cli::serving::{Request, serve};
+use span_cli::serving::{ServingMeans, serve};
 use span_cli::streams::Streams;
 use span_cli::words::request;
 use std::alloc::Global;
@@ -56,20 +56,6 @@ fn of_streams(rt: &impl Abort, alloc: Global) {
     assert!(rt; streams.may_read("params.csv"));
 }
 
-// Parsing arguments to a request.
-fn of_words(rt: &impl Abort, alloc: Global) {
-    let words = ["span", "check", "params.csv"];
-    let asked = request(alloc, &words).expect(rt, "a command line");
-    assert!(rt;
-        matches!(
-            asked,
-            Request::Check {
-                params: "params.csv"
-            }
-        )
-    );
-}
-
 // Answering a command line.
 fn of_lines<R: Threads + Wait + Clock + Sync + Abort>(rt: &R, alloc: Global) {
     let mut sources = InMemory { files: &FILES };
@@ -77,24 +63,20 @@ fn of_lines<R: Threads + Wait + Clock + Sync + Abort>(rt: &R, alloc: Global) {
     assert!(rt; run_on(rt, alloc, &words, &mut sources, &OpenGate).is(0, COUNTS, b""));
 }
 
-// Answering a request.
+// Parsing arguments to a request, and answering it.
 fn of_requests<R: Threads + Wait + Clock + Sync + Abort>(rt: &R, alloc: Global) {
     let mut sources = InMemory { files: &FILES };
     let mut out = MarkedWriter::new(Vec::new(alloc));
     let mut err = MarkedWriter::new(Vec::new(alloc));
-    let request = Request::Check {
-        params: "params.csv",
-    };
-    let status = serve(
+    let words = ["span", "check", "params.csv"];
+    let request = request(alloc, &words).expect(rt, "a command line");
+    let lent = ServingMeans {
         rt,
         alloc,
-        request,
-        &mut sources,
-        &OpenGate,
-        b"".as_slice(),
-        &mut out,
-        &mut err,
-    );
+        gate: &OpenGate,
+    };
+    let mut input = b"".as_slice();
+    let status = serve(&lent, request, &mut sources, &mut input, &mut out, &mut err);
     assert_eq!(rt; status, 0);
     assert_eq!(rt; out.into_inner().as_slice(), COUNTS);
 }
@@ -105,7 +87,6 @@ fn calls_succeed(rt: HostRuntime) {
     of_sources(&rt, alloc);
     of_readers(&rt, alloc);
     of_streams(&rt, alloc);
-    of_words(&rt, alloc);
     of_lines(&rt, alloc);
     of_requests(&rt, alloc);
 }

@@ -2,7 +2,8 @@
 use crate::builders::{Breaking, Given, run_over};
 use sample_files::one_future::{PARAMS, POSITIONS};
 use span_cli::memory::InMemory;
-use span_cli::serving::{Request, serve};
+use span_cli::requests::{Request, Service};
+use span_cli::serving::{ServingMeans, serve};
 use std::alloc::Global;
 use std::io;
 use std::io::{ErrorKind, Read};
@@ -127,22 +128,14 @@ fn says_that_the_output_failed(rt: HostRuntime) {
         let mut sources = InMemory { files: &files };
         let mut out = MarkedWriter::new(Breaking { room });
         let mut err = MarkedWriter::new(Vec::new(alloc));
-        let request = Request::Session {
-            params: "params.csv",
-            positions: "positions.csv",
-            workers: 1,
-        };
-        let (gate, input) = (OpenGate, REQUESTS);
-        let status = serve(
-            &rt,
+        let request = Request::new(Service::Session(1), &["params.csv", "positions.csv"]);
+        let lent = ServingMeans {
+            rt: &rt,
             alloc,
-            request,
-            &mut sources,
-            &gate,
-            input,
-            &mut out,
-            &mut err,
-        );
+            gate: &OpenGate,
+        };
+        let mut input = REQUESTS;
+        let status = serve(&lent, request, &mut sources, &mut input, &mut out, &mut err);
         assert_eq!(rt; status, 6);
         assert!(rt; err.into_inner().as_slice() == b"file: output\n".as_slice());
     }

@@ -2,7 +2,8 @@
 use sample_files::one_future;
 use sample_files::three_commodities::{PARAMS, POSITIONS, STATEMENT};
 use span_cli::memory::InMemory;
-use span_cli::serving::{Request, serve};
+use span_cli::requests::{Command, Request, Service};
+use span_cli::serving::{ServingMeans, serve};
 use std::alloc::Global;
 use std::io;
 use std::io::{ErrorKind, Write};
@@ -55,21 +56,15 @@ fn margin_into<R: Threads + Wait + Clock + Sync>(
         room: error_room,
         kept: Vec::new(alloc),
     });
-    let request = Request::Margin {
-        params: "params.csv",
-        positions: "positions.csv",
-        workers: 1,
-    };
-    let status = serve(
+    let files = ["params.csv", "positions.csv"];
+    let request = Request::new(Service::Once(Command::Margin(1)), &files);
+    let lent = ServingMeans {
         rt,
         alloc,
-        request,
-        &mut sources,
-        &OpenGate,
-        b"".as_slice(),
-        &mut out,
-        &mut err,
-    );
+        gate: &OpenGate,
+    };
+    let mut input = b"".as_slice();
+    let status = serve(&lent, request, &mut sources, &mut input, &mut out, &mut err);
     (status, out.into_inner().kept, err.into_inner().kept)
 }
 

@@ -4,6 +4,7 @@ use sample_files::one_future::{PARAMS, POSITIONS, STATEMENT};
 use sources::{ReadFault, Sources};
 use span_cli::memory::InMemory;
 use span_cli::outputs::{ErrorStream, OutputStream};
+use span_cli::serving::ServingMeans;
 use span_cli::words::{refuse_words, run_words};
 use std::alloc::Global;
 use std::io;
@@ -81,16 +82,13 @@ fn run_into<W: OutputStream, E: ErrorStream, R: Threads + Wait + Clock + Sync>(
     let mut sources = InMemory { files: &files };
     let mut out = MarkedWriter::new(out);
     let mut err = MarkedWriter::new(err);
-    let status = run_words(
+    let lent = ServingMeans {
         rt,
         alloc,
-        words,
-        &mut sources,
-        &OpenGate,
-        b"".as_slice(),
-        &mut out,
-        &mut err,
-    );
+        gate: &OpenGate,
+    };
+    let mut input = b"".as_slice();
+    let status = run_words(&lent, words, &mut sources, &mut input, &mut out, &mut err);
     (status, out.into_inner(), err.into_inner())
 }
 

@@ -2,6 +2,7 @@
 #![tactic(auto)]
 
 use span_cli::disk::Disk;
+use span_cli::serving::ServingMeans;
 use span_cli::words::{refuse_words, run_words};
 use std::alloc::Global;
 use std::process::ExitCode;
@@ -20,17 +21,14 @@ fn main(rt: HostRuntime) -> ExitCode {
     let mut err = MarkedWriter::new(rt.stderr());
     let status = match words_of(&rt, alloc) {
         Ok(words) => {
-            let mut disk = Disk::new(alloc, &rt);
-            run_words(
-                &rt,
+            let lent = ServingMeans {
+                rt: &rt,
                 alloc,
-                words.as_slice(),
-                &mut disk,
-                &OpenGate,
-                rt.stdin(),
-                &mut out,
-                &mut err,
-            )
+                gate: &OpenGate,
+            };
+            let mut disk = Disk::new(alloc, &rt);
+            let mut input = rt.stdin();
+            run_words(&lent, &words, &mut disk, &mut input, &mut out, &mut err)
         }
         Err(error) => refuse_words(&error, &mut err),
     };

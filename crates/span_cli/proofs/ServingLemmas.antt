@@ -8,7 +8,7 @@ use Rattle.session.specs.Answers.{State, is_stdin, opened}
 use Rattle.session.specs.Conversations.{AreFromSource, Turn, files_of, reads_of, session_of}
 use Rattle.session.specs.declared.session.Opened.{Opened}
 use Rattle.sources.specs.Reads.{ReadsAll, ReadsInOrder}
-use Rattle.clap.specs.Words.{HasKind, IsAmong, Kinds, kind_of}
+use Rattle.clap.specs.Words.{HasKind, IsAmong, Kinds, Text, kind_of}
 use Rattle.clap.specs.declared.error.Error.{Error}
 use Rattle.clap.specs.declared.error.kind.ErrorKind.{ErrorKind}
 use Rattle.clap.specs.declared.error.kind.ErrorKind.TheVariants as kind
@@ -16,23 +16,25 @@ use Rattle.writers.specs.Streams.{Says, Stream}
 use Rattle.statement.specs.Rolls.{GivesRoll}
 use Rattle.statement_text.specs.declared.faults.SpanFault.{SpanFault}
 use Rattle.statement_text.specs.declared.faults.SpanFault.TheVariants as fault
-use Rattle.span_cli.specs.Serving.{Answer, Asked, Command, Found, IsAnswer, IsAnswered, IsOfRoll, all_read, answer_of, answered, memory}
-use Rattle.span_cli.specs.Serving.{Check, Explain, Faults, Margin, Plan, Roll, Session, WhatIf}
+use Rattle.span_cli.specs.Serving.{Answer, Asked, Found, IsAnswer, IsAnswered, IsOfRoll, all_read, answer_of, answered, memory}
 use Rattle.span_cli.specs.Serving.{answered_amid, done, ended_answer, found_by, read_before, refused, takes_requests, turns_in}
 use Rattle.span_cli.specs.Reads.{ReadsAsked}
 use Rattle.span_cli.specs.Sessions.{AtEnd, CutOff, Ending, Ends, IsConversation, Outside, Unwritten, around, found_under, reads_under}
 use Rattle.sources.specs.Files.{File}
 use Rattle.sources.specs.declared.ReadFault.TheVariants as read
-use Rattle.span_cli.specs.Telling.{AnswersWords, RefusesWordsBy, Serves, ServesAsked, Tells}
+use Rattle.span_cli.specs.Telling.{AnswersWords, AreOpened, RefusesWordsBy, Serves, ServesAsked, TakesInput, TakesInputFor, Tells, told}
+use Rattle.span_cli.specs.Words.{asked_in, is_request, request_in}
+use Rattle.statement_text.specs.declared.statuses.TheConstants.{DONE, FILE_FAILED, OUT_OF_MEMORY}
 use Rattle.span_cli.specs.Telling as telling
-use Rattle.span_cli.specs.near.Refusals.{ComesOf, Loads, MayGive, Refuses, Runs, given_answer, read_then, refusal_answer}
+use Rattle.span_cli.specs.near.Refusals.{Loads, MayGive, Opens, TellsSome, given_answer, read_then, refusal_answer}
 use Rattle.span_cli.specs.near.Refusals.{refusal_line, refusal_status}
 use Rattle.span_cli.specs.near.Sessions.{TellsSession, texts_from}
+use Rattle.span_cli.specs.declared.requests.Command.{Command}
 use Rattle.span_cli.specs.declared.serving.Given.{Given}
-use Rattle.span_cli.specs.declared.serving.Outcome.{Outcome}
-use Rattle.span_cli.specs.declared.serving.Outcome.TheVariants as outcome
 use Rattle.span_cli.specs.declared.serving.Refusal.{Refusal}
 use Rattle.span_cli.specs.declared.serving.Refusal.TheVariants as refusal
+use Rattle.span_cli.specs.declared.requests.Service.{Service}
+use Rattle.span_cli.specs.declared.requests.Service.TheVariants.{Once, Session}
 use Rattle.span_cli.proofs.SessionLemmas.{same_source}
 
 -- nothing was written
@@ -59,6 +61,14 @@ pub of_roll : {Y : Type 0} (view : Y → List ℕ) (workers : ℕ) (params next 
     → MayGive (λ y. done (view y)) r (IsOfRoll workers params next positions)
 of_roll view workers params next positions (Ok y) h = record { given = Ok (view y); gives = h; is = refl }
 of_roll view workers params next positions (Err e) h = inr (record { given = Err e; gives = h; is = refl })
+
+-- the answer to a command was written, or its rejection
+pub answer_told : (P : Answer → Type 0) (e : SpanFault) (given : ℕ) (out old_err new_err : Stream)
+    → Tells (answer_of (Err e)) given out out old_err new_err → (e ≡ fault.Memory) ⊎ P (answer_of (Err e))
+    → TellsSome P given out out old_err new_err
+answer_told P e given out old_err new_err told (inl wanted) =
+    inr (subst (λ (x : SpanFault). Tells (answer_of (Err x)) given out out old_err new_err) wanted told)
+answer_told P e given out old_err new_err told (inr holds) = inl (answer_of (Err e), holds, told)
 
 -- ---- files that are read one after the other
 
@@ -127,19 +137,7 @@ pub found_same : (is_session : Bool) (file later : List ℕ → Option File) (na
 found_same is_session file later name same =
     ap (λ (o : Option File). if is_session && is_stdin name then Some (Err read.Failed) else o) same
 
--- ---- the outcome of a request
-
--- the answer that a command has for its files alone is its answer in every environment
-at_once : (outside : Outside) (command : Command) (files : List (List ℕ)) (answer : Answer) → answered command files answer
-    → answered_amid outside command files answer
-at_once outside Check files answer h = h
-at_once outside Plan files answer h = h
-at_once outside (Margin workers) files answer h = h
-at_once outside (Explain account) files answer h = h
-at_once outside (Roll workers) files answer h = h
-at_once outside (WhatIf workers) files answer h = h
-at_once outside Faults files answer h = h
-at_once outside (Session workers) files answer h = absurd h
+-- ---- the answer to a request
 
 -- a session has the texts of its state if its files open it, and their fault otherwise
 session_texts : (params positions : List ℕ) (turns : List Turn) (s : State) → opened params positions ≡ Ok s
@@ -152,83 +150,19 @@ session_fault : (params positions : List ℕ) (turns : List Turn) (e : SpanFault
 unfolding session_of
 session_fault params positions turns e is = rw is refl
 
--- if no request was taken, the fault of the files is the answer in every environment
-refuses_amid : (outside : Outside) (command : Command) (files : List (List ℕ)) (e : SpanFault) → outside.turns ≡ []
-    → Refuses command files e → answered_amid outside command files (answer_of (Err e))
-refuses_amid outside Check files e none h = h
-refuses_amid outside Plan files e none h = h
-refuses_amid outside (Margin workers) files e none h = h
-refuses_amid outside (Explain account) files e none h = h
-refuses_amid outside (Roll workers) files e none h = h
-refuses_amid outside (WhatIf workers) files e none h = h
-refuses_amid outside Faults files e none h = h
-refuses_amid outside (Session workers) [] e none h = absurd h
-refuses_amid outside (Session workers) (params ∷ []) e none h = absurd h
-refuses_amid outside (Session workers) (params ∷ positions ∷ []) e none h =
-    rw (session_fault params positions outside.turns e h) (none, refl)
-refuses_amid outside (Session workers) (params ∷ positions ∷ more ∷ rest) e none h = absurd h
-
--- the answer to the request, if the sources have these files
-found_so : (file : List ℕ → Option File) (asked : Asked) (answer : Answer)
-    → ((outside : Outside) → outside.turns ≡ [] → IsAnswered outside asked.0 (found_by file asked) answer)
-    → (outside : Outside) → outside.file ≡ file → outside.turns ≡ [] → IsAnswer outside asked answer
-found_so file asked answer h outside same none =
-    subst (λ (f : List ℕ → Option File). IsAnswered outside asked.0 (found_by f asked) answer) (sym same) (h outside none)
-
--- the answer to a request whose files were not all read
-pub unread_runs : (file : List ℕ → Option File) (asked : Asked) (r : Refusal)
-    → IfSome (found_by file asked) (λ o. (r ≡ refusal.Fault fault.Memory) ⊎ (o ≡ Err (refusal_answer r))) → Runs file asked (Err r)
-unread_runs file asked r h = of_files (found_by file asked) refl h where
-  of_files : (found : Found) → found_by file asked ≡ found
-      → IfSome found (λ o. (r ≡ refusal.Fault fault.Memory) ⊎ (o ≡ Err (refusal_answer r))) → Runs file asked (Err r)
-  of_files None is h = inr (found_so file asked (refusal_answer r) (λ outside none. rw is tt))
-  of_files (Some o) is (inl memory) = inl memory
-  of_files (Some o) is (inr unread) = inr (found_so file asked (refusal_answer r) (λ outside none. rw (is, unread) (none, refl)))
-
--- the answer to a request whose files are rejected
-pub fault_runs : (file : List ℕ → Option File) (asked : Asked) (files : List (List ℕ)) (e : SpanFault)
-    → IfSome (found_by file asked) (λ o. o ≡ Ok files) → (e ≡ fault.Memory) ⊎ Refuses asked.0 files e
-    → Runs file asked (Err (refusal.Fault e))
-fault_runs file asked files e h (inl memory) = inl (ap refusal.Fault memory)
-fault_runs file asked files e h (inr refuses) =
-    inr (found_so file asked (refusal_answer (refusal.Fault e)) (λ outside none. of_files outside none (found_by file asked) h)) where
-      of_files : (outside : Outside) → outside.turns ≡ [] → (found : Found) → IfSome found (λ o. o ≡ Ok files)
-          → IsAnswered outside asked.0 found (refusal_answer (refusal.Fault e))
-      of_files outside none None h = tt
-      of_files outside none (Some o) is = rw is (refuses_amid outside asked.0 files e none refuses)
-
--- the outcome of a request whose files were read
-pub read_runs : (file : List ℕ → Option File) (asked : Asked) (files : List (List ℕ)) (came : Outcome)
-    → IfSome (found_by file asked) (λ o. o ≡ Ok files) → ComesOf asked.0 files came → Runs file asked (Ok came)
-read_runs file asked files came h comes = of_files (found_by file asked) h where
-  of_files : (found : Found) → IfSome found (λ o. o ≡ Ok files)
-      → IfSome found (λ o. (read : List (List ℕ)) × (o ≡ Ok read) × ComesOf asked.0 read came)
-  of_files None h = tt
-  of_files (Some o) is = (files, is, comes)
-
--- ---- what is written for it
-
--- if there are no turns, no command has turns
-no_turns : (command : Command) → turns_in command [] ≡ []
-no_turns Check = refl
-no_turns Plan = refl
-no_turns (Margin workers) = refl
-no_turns (Explain account) = refl
-no_turns (Roll workers) = refl
-no_turns (WhatIf workers) = refl
-no_turns Faults = refl
+-- no session has turns if there are none
+no_turns : (service : Service) → turns_in service [] ≡ []
+no_turns (Once command) = refl
 no_turns (Session workers) = refl
 
--- a command that takes requests has all turns
-all_turns : (command : Command) (turns : List Turn) → takes_requests command ≡ true → turns_in command turns ≡ turns
-all_turns Check turns takes = cc
-all_turns Plan turns takes = cc
-all_turns (Margin workers) turns takes = cc
-all_turns (Explain account) turns takes = cc
-all_turns (Roll workers) turns takes = cc
-all_turns (WhatIf workers) turns takes = cc
-all_turns Faults turns takes = cc
-all_turns (Session workers) turns takes = refl
+-- an answer that the service gives for these files is an answer to the request that reads them
+found_answer : (outside : Outside) (asked : Asked) (files : List (List ℕ)) (answer : Answer)
+    → IfSome (found_by outside.file asked) (λ o. o ≡ Ok files) → answered_amid outside asked.0 files answer
+    → IsAnswer outside asked answer
+found_answer outside asked files answer known holds = of_files (found_by outside.file asked) known where
+  of_files : (found : Found) → IfSome found (λ o. o ≡ Ok files) → IsAnswered outside asked.0 found answer
+  of_files None known = tt
+  of_files (Some o) is = rw is holds
 
 -- only the files of the request were read
 pub files_read : {S : Type 0} (reads : S → List ℕ → Bool → S → Type 0) (old new : S) (asked : Asked)
@@ -236,52 +170,58 @@ pub files_read : {S : Type 0} (reads : S → List ℕ → Bool → S → Type 0)
 files_read reads old new asked h =
     (new, h, subst (λ (turns : List Turn). ReadsAll reads new (reads_of turns) new) (sym (no_turns asked.0)) refl)
 
--- the immediate answer to a request was written
-pub given_serves : (file : List ℕ → Option File) (input : Option (List ℕ)) (asked : Asked) (g : Given) (given : ℕ)
-    (old_out new_out old_err new_err : Stream) → Runs file asked (Ok (outcome.Answer g))
-    → Tells (given_answer g) given old_out new_out old_err new_err
-    → Serves (around file input [] new_out.failed) asked given old_out new_out old_err new_err
-given_serves file input asked g given old_out new_out old_err new_err runs told =
-    inl (record { answer = given_answer g; is = of_files (found_by file asked) runs; told = told }) where
-      of_files : (found : Found)
-          → IfSome found (λ o. (read : List (List ℕ)) × (o ≡ Ok read) × answered asked.0 read (given_answer g))
-          → IsAnswered (around file input [] new_out.failed) asked.0 found (given_answer g)
-      of_files None h = tt
-      of_files (Some o) (files, is, holds) = rw is (at_once (around file input [] new_out.failed) asked.0 files (given_answer g) holds)
+-- a rejection was reported, and is an answer to the request, or out of memory
+refusal_serves : (outside : Outside) (asked : Asked) (r : Refusal) (given : ℕ) (out old_err new_err : Stream) → outside.turns ≡ []
+    → Tells (refusal_answer r) given out out old_err new_err
+    → (r ≡ refusal.Fault fault.Memory) ⊎ IsAnswer outside asked (refusal_answer r) → Serves outside asked given out out old_err new_err
+refusal_serves outside asked r given out old_err new_err none told (inl wanted) =
+    inr (none, subst (λ (x : Refusal). Tells (refusal_answer x) given out out old_err new_err) wanted told)
+refusal_serves outside asked r given out old_err new_err none told (inr is) =
+    inl (record { answer = refusal_answer r; is = is; told = told })
 
--- what is written for a rejection is the answer, or out of memory
-pub refusal_serves : (file : List ℕ → Option File) (input : Option (List ℕ)) (asked : Asked) (r : Refusal) (given : ℕ)
-    (out old_err new_err : Stream) → out.failed ≡ false → given ≡ refusal_status r → Says old_err new_err (refusal_line r)
-    → Runs file asked (Err r) → Serves (around file input [] out.failed) asked given out out old_err new_err
-refusal_serves file input asked r given out old_err new_err fresh same said (inl wanted) =
-    inr (
-      refl,
-      subst (λ (x : Refusal). Tells (refusal_answer x) given out out old_err new_err) wanted
-          (refused_tells _ _ given out old_err new_err fresh same said),
-    )
-refusal_serves file input asked r given out old_err new_err fresh same said (inr is) =
+-- a request whose files were not all read
+pub unread_serves : (outside : Outside) (asked : Asked) (r : Refusal) (given : ℕ) (out old_err new_err : Stream) → outside.turns ≡ []
+    → Tells (refusal_answer r) given out out old_err new_err
+    → IfSome (found_by outside.file asked) (λ o. (r ≡ refusal.Fault fault.Memory) ⊎ (o ≡ Err (refusal_answer r)))
+    → Serves outside asked given out out old_err new_err
+unread_serves outside asked r given out old_err new_err none told known =
+    refusal_serves outside asked r given out old_err new_err none told (of_files (found_by outside.file asked) known) where
+      of_files : (found : Found) → IfSome found (λ o. (r ≡ refusal.Fault fault.Memory) ⊎ (o ≡ Err (refusal_answer r)))
+          → (r ≡ refusal.Fault fault.Memory) ⊎ IsAnswered outside asked.0 found (refusal_answer r)
+      of_files None known = inr tt
+      of_files (Some o) (inl memory) = inl memory
+      of_files (Some o) (inr unread) = inr (rw unread (none, refl))
+
+-- a command was answered from the bytes of its files
+pub once_serves : (outside : Outside) (asked : Asked) (command : Command) (files : List (List ℕ)) (given : ℕ)
+    (old_out new_out old_err new_err : Stream) → outside.turns ≡ [] → asked.0 ≡ Once command
+    → IfSome (found_by outside.file asked) (λ o. o ≡ Ok files) → TellsSome (answered command files) given old_out new_out old_err new_err
+    → Serves outside asked given old_out new_out old_err new_err
+once_serves outside asked command files given old_out new_out old_err new_err none is known (inl (answer, holds, told)) =
     inl (record {
-      answer = refusal_answer r;
-      is = is (around file input [] out.failed) refl refl;
-      told = refused_tells _ _ given out old_err new_err fresh same said;
+      answer = answer;
+      is = found_answer outside asked files answer known (subst (λ s. answered_amid outside s files answer) (sym is) holds);
+      told = told;
     })
+once_serves outside asked command files given old_out new_out old_err new_err none is known (inr wanted) = inr (none, wanted)
 
--- the answer of a session that its files open
-opened_answer : (outside : Outside) (command : Command) (files : List (List ℕ)) (o : Opened) (count : ℕ) (ending : Ending)
-    → ComesOf command files (outcome.Session o count) → IsConversation outside ending
-    → answered_amid outside command files (ended_answer ending (texts_from o.session outside.turns))
-opened_answer outside (Session workers) (params ∷ positions ∷ []) o count ending opens conversed =
-    rw (session_texts params positions outside.turns o.session opens) (ending, conversed, refl)
-opened_answer outside (Session workers) [] o count ending opens conversed = absurd opens
-opened_answer outside (Session workers) (params ∷ []) o count ending opens conversed = absurd opens
-opened_answer outside (Session workers) (params ∷ positions ∷ more ∷ rest) o count ending opens conversed = absurd opens
-opened_answer outside Check files o count ending opens conversed = absurd opens
-opened_answer outside Plan files o count ending opens conversed = absurd opens
-opened_answer outside (Margin workers) files o count ending opens conversed = absurd opens
-opened_answer outside (Explain account) files o count ending opens conversed = absurd opens
-opened_answer outside (Roll workers) files o count ending opens conversed = absurd opens
-opened_answer outside (WhatIf workers) files o count ending opens conversed = absurd opens
-opened_answer outside Faults files o count ending opens conversed = absurd opens
+-- a session whose files are rejected
+pub unopened_serves : (outside : Outside) (asked : Asked) (workers : ℕ) (files : List (List ℕ)) (e : SpanFault) (given : ℕ)
+    (out old_err new_err : Stream) → outside.turns ≡ [] → asked.0 ≡ Session workers
+    → IfSome (found_by outside.file asked) (λ o. o ≡ Ok files) → Tells (refusal_answer (refusal.Fault e)) given out out old_err new_err
+    → Opens files (Err e) → Serves outside asked given out out old_err new_err
+unopened_serves outside asked workers files e given out old_err new_err none is known told opens =
+    refusal_serves outside asked (refusal.Fault e) given out old_err new_err none told (of_files files opens known) where
+      of_files : (files : List (List ℕ)) → Opens files (Err e) → IfSome (found_by outside.file asked) (λ o. o ≡ Ok files)
+          → (refusal.Fault e ≡ refusal.Fault fault.Memory) ⊎ IsAnswer outside asked (refusal_answer (refusal.Fault e))
+      of_files [] opens known = absurd opens
+      of_files (params ∷ []) opens known = absurd opens
+      of_files (params ∷ positions ∷ []) (inl memory) known = inl (ap refusal.Fault memory)
+      of_files (params ∷ positions ∷ []) (inr refused) known =
+          inr (found_answer outside asked (params ∷ positions ∷ []) _ known
+          (subst (λ s. answered_amid outside s (params ∷ positions ∷ []) (refusal_answer (refusal.Fault e))) (sym is)
+          (rw (session_fault params positions outside.turns e refused) (none, refl))))
+      of_files (params ∷ positions ∷ more ∷ rest) opens known = absurd opens
 
 -- the conversation of a session whose sources did not change before it
 conversed_before : (file later : List ℕ → Option File) (input : Option (List ℕ)) (turns : List Turn) (is_unwritten : Bool) (ending : Ending)
@@ -298,40 +238,84 @@ conversed_before file later input turns is_unwritten ending same h = record {
   ends_before CutOff h = h
   ends_before Unwritten h = h
 
--- a session that a request opens was served, or memory ran out before it began
+-- a session that its files open was served
 pub session_serves : {S : Type 0} (file later : List ℕ → Option File) (reads : S → List ℕ → Bool → S → Type 0) (old mid new : S)
-    (input : Option (List ℕ)) (asked : Asked) (o : Opened) (count : ℕ) (given : ℕ) (old_out new_out old_err new_err : Stream)
-    → ((name : List ℕ) → later name ≡ file name) → Runs file asked (Ok (outcome.Session o count)) → takes_requests asked.0 ≡ true
+    (input known_input : Option (List ℕ)) (asked : Asked) (workers : ℕ) (files : List (List ℕ)) (o : Opened) (given : ℕ)
+    (old_out new_out old_err new_err : Stream) → asked.0 ≡ Session workers → known_input ≡ input
+    → ((name : List ℕ) → later name ≡ file name) → IfSome (found_by file asked) (λ x. x ≡ Ok files) → Opens files (Ok o)
     → ReadsInOrder (reads_under (takes_requests asked.0) reads) old asked.1 mid
     → ((turns : List Turn) × AreFromSource later reads mid turns new
-    × (TellsSession later input o.session turns given old_out new_out old_err new_err
-    ⊎ ((turns ≡ []) × Tells memory given old_out new_out old_err new_err)))
+    × TellsSession later known_input o.session turns given old_out new_out old_err new_err)
     → (turns : List Turn) × Serves (around file input turns new_out.failed) asked given old_out new_out old_err new_err
     × ReadsAsked reads old turns (Some asked) new
-session_serves {S} file later reads old mid new input asked o count given old_out new_out old_err new_err same runs takes in_order
-    (turns, source, tells) = (turns, told tells, (mid, in_order, after)) where
+session_serves {S} file later reads old mid new input known_input asked workers files o given old_out new_out old_err new_err is same_input
+    same known opens in_order (turns, source, t) =
+    (turns, inl (record { answer = answer; is = of_files files opens known; told = t.told }), (mid, in_order, after)) where
       outside : Outside
       outside = around file input turns new_out.failed
 
+      answer : Answer
+      answer = ended_answer t.ending (texts_from o.session turns)
+
       after : ReadsAll reads mid (reads_of (turns_in asked.0 turns)) new
-      after = subst (λ (ts : List Turn). ReadsAll reads mid (reads_of ts) new) (sym (all_turns asked.0 turns takes)) source.in_order
+      after = subst (λ s. ReadsAll reads mid (reads_of (turns_in s turns)) new) (sym is) source.in_order
 
-      of_files : (found : Found) (ending : Ending)
-          → IfSome found (λ x. (read : List (List ℕ)) × (x ≡ Ok read) × ComesOf asked.0 read (outcome.Session o count))
-          → IsConversation outside ending → IsAnswered outside asked.0 found (ended_answer ending (texts_from o.session turns))
-      of_files None ending h conversed = tt
-      of_files (Some x) ending (files, is, opens) conversed = rw is (opened_answer outside asked.0 files o count ending opens conversed)
+      conversed : IsConversation outside t.ending
+      conversed =
+          conversed_before file later input turns new_out.failed t.ending same
+          (subst (λ i. IsConversation (around later i turns new_out.failed) t.ending) same_input t.is)
 
-      told : TellsSession later input o.session turns given old_out new_out old_err new_err
-          ⊎ ((turns ≡ []) × Tells memory given old_out new_out old_err new_err)
-          → Serves outside asked given old_out new_out old_err new_err
-      told (inr wanted) = inr wanted
-      told (inl t) =
-          inl (record {
-            answer = ended_answer t.ending (texts_from o.session turns);
-            is = of_files (found_by file asked) t.ending runs (conversed_before file later input turns new_out.failed t.ending same t.is);
-            told = t.told;
-          })
+      of_files : (files : List (List ℕ)) → Opens files (Ok o) → IfSome (found_by file asked) (λ x. x ≡ Ok files)
+          → IsAnswer outside asked answer
+      of_files [] opens known = absurd opens
+      of_files (params ∷ []) opens known = absurd opens
+      of_files (params ∷ positions ∷ []) opens known =
+          found_answer outside asked (params ∷ positions ∷ []) answer known
+          (subst (λ s. answered_amid outside s (params ∷ positions ∷ []) answer) (sym is)
+          (rw (session_texts params positions turns o.session opens.0) (t.ending, conversed, refl)))
+      of_files (params ∷ positions ∷ more ∷ rest) opens known = absurd opens
+
+-- ---- the input
+
+-- the status of a session that ended
+ended_status : (failed : Bool) (ending : Ending) (texts : List (List ℕ)) (given : ℕ)
+    → given ≡ (told failed (ended_answer ending texts)).status → (given ≡ DONE) ⊎ ((given ≡ FILE_FAILED) ⊎ (given ≡ OUT_OF_MEMORY))
+ended_status true ending texts given is = inr (inl is)
+ended_status false AtEnd texts given is = inl is
+ended_status false CutOff texts given is = inr (inl is)
+ended_status false Unwritten texts given is = inl is
+
+-- for a session that its files open, the input may be read
+pub opened_takes : (file : List ℕ → Option File) (asked : Asked) (workers : ℕ) (files : List (List ℕ)) (o : Opened) (given : ℕ)
+    → asked.0 ≡ Session workers → IfSome (found_by file asked) (λ x. x ≡ Ok files) → Opens files (Ok o)
+    → (given ≡ DONE) ⊎ ((given ≡ FILE_FAILED) ⊎ (given ≡ OUT_OF_MEMORY)) → TakesInput file asked given
+opened_takes file asked workers files o given is known opens status =
+    record { takes = ap takes_requests is; opens = of_found (found_by file asked) known (of_files files opens); status = status } where
+      of_files : (files : List (List ℕ)) → Opens files (Ok o) → AreOpened (Ok files)
+      of_files [] opens = absurd opens
+      of_files (params ∷ []) opens = absurd opens
+      of_files (params ∷ positions ∷ []) opens = (params, positions, o.session, refl, opens.0)
+      of_files (params ∷ positions ∷ more ∷ rest) opens = absurd opens
+
+      of_found : (found : Found) → IfSome found (λ x. x ≡ Ok files) → AreOpened (Ok files) → IfSome found AreOpened
+      of_found None known opened = tt
+      of_found (Some x) same opened = subst AreOpened (sym same) opened
+
+-- the same for a session that was served
+pub served_takes : {S : Type 0} (file later : List ℕ → Option File) (reads : S → List ℕ → Bool → S → Type 0) (mid new : S)
+    (input : Option (List ℕ)) (asked : Asked) (workers : ℕ) (files : List (List ℕ)) (o : Opened) (given : ℕ)
+    (old_out new_out old_err new_err : Stream) → asked.0 ≡ Session workers → IfSome (found_by file asked) (λ x. x ≡ Ok files)
+    → Opens files (Ok o)
+    → ((turns : List Turn) × AreFromSource later reads mid turns new
+    × TellsSession later input o.session turns given old_out new_out old_err new_err) → TakesInput file asked given
+served_takes file later reads mid new input asked workers files o given old_out new_out old_err new_err is known opens (turns, source, t) =
+    opened_takes file asked workers files o given is known opens (ended_status new_out.failed t.ending _ given t.told.status)
+
+-- the request is the one of valid arguments
+pub input_for : {A : Type 0} (file : List ℕ → Option File) (words : List Text) (asked : Asked) (given : ℕ) → is_request words ≡ true
+    → asked_in words ≡ Some asked → A ⊎ TakesInput file asked given → A ⊎ TakesInputFor file (request_in words) given
+input_for file words asked given taken is (inl same) = inl same
+input_for file words asked given taken is (inr takes) = inr (asked, rw taken is, takes)
 
 -- the answer to a valid request may be out of memory
 pub memory_serves : (outside : Outside) (o : Option Asked) (given : ℕ) (old_out new_out old_err new_err : Stream)

@@ -1,7 +1,6 @@
 -- The answer to a request.
-use Rattle.std.specs.Prelude.{◌≡◌, ℕ, Bool, true, false, List, [], ◌∷◌, ◌++◌, flat_map, codes, Option, Some, None, option_map}
+use Rattle.std.specs.Prelude.{◌≡◌, ℕ, Bool, true, false, List, [], ◌∷◌, ◌++◌, flat_map, codes, map, Option, Some, None}
 use Rattle.std.specs.Prelude.{Result, Ok, Err, ⊤}
-use Rattle.std.specs.Option.{option_to_list}
 use Rattle.explanation.specs.Explanation.{explanation_of}
 use Rattle.session.specs.Conversations.{Turn, session_of}
 use Rattle.statement.specs.AllFaults.{faults_of, faults_status, faults_text}
@@ -17,8 +16,11 @@ use Rattle.sources.specs.Files.{File}
 use Rattle.sources.specs.declared.ReadFault.{ReadFault}
 use Rattle.sources.specs.declared.ReadFault.TheVariants as read
 use Rattle.span_cli.specs.Sessions.{AtEnd, CutOff, Ending, IsConversation, Outside, Unwritten, found_under}
-use Rattle.span_cli.specs.declared.serving.Request.{Request}
-use Rattle.span_cli.specs.declared.serving.Request.TheVariants as request
+use Rattle.span_cli.specs.declared.requests.Command.{Command}
+use Rattle.span_cli.specs.declared.requests.Command.TheVariants.{Check, Plan, Margin, Explain, Roll, WhatIf, Faults}
+use Rattle.span_cli.specs.declared.requests.Request.{Request}
+use Rattle.span_cli.specs.declared.requests.Service.{Service}
+use Rattle.span_cli.specs.declared.requests.Service.TheVariants.{Once, Session}
 
 -- a status, and the bytes for the output and for the error stream
 pub record Answer : Type 0 where
@@ -58,41 +60,22 @@ unread name read.Failed = refused FILE_FAILED (file_line name)
 unread name read.TooLong = refused FILE_FAILED (file_line name)
 unread name read.OutOfMemory = memory
 
--- a command, with its number of workers, or with the account if only one is explained
-pub data Command : Type 0 where
-  Check : Command
-  Plan : Command
-  Margin : ℕ → Command
-  Explain : Option (List ℕ) → Command
-  Roll : ℕ → Command
-  WhatIf : ℕ → Command
-  Faults : Command
-  Session : ℕ → Command
-
--- the command reads requests from the input
-abbrev pub takes_requests : Command → Bool
+-- requests are read from the input
+abbrev pub takes_requests : Service → Bool
+takes_requests (Once command) = false
 takes_requests (Session workers) = true
-takes_requests command = false
 
--- the turns of a session; no other command has turns
-abbrev pub turns_in : Command → List Turn → List Turn
+-- the turns of a session; a command has none
+abbrev pub turns_in : Service → List Turn → List Turn
+turns_in (Once command) turns = []
 turns_in (Session workers) turns = turns
-turns_in command turns = []
 
--- a request: a command, and the names of its files in the order in which they are read
+-- what a request asks for, and the names of its files in the order in which they are read
 abbrev pub Asked : Type 0
-Asked = Command × List (List ℕ)
+Asked = Service × List (List ℕ)
 
--- the command and the files of a request
 abbrev pub asked_by : Request → Asked
-asked_by (request.Check params) = (Check, params.now ∷ [])
-asked_by (request.Plan params) = (Plan, params.now ∷ [])
-asked_by (request.Margin params positions workers) = (Margin workers, params.now ∷ positions.now ∷ [])
-asked_by (request.Explain params positions account) = (Explain account, params.now ∷ positions.now ∷ [])
-asked_by (request.Roll params next positions workers) = (Roll workers, params.now ∷ next.now ∷ positions.now ∷ [])
-asked_by (request.WhatIf params positions orders workers) = (WhatIf workers, params.now ∷ positions.now ∷ orders.now ∷ [])
-asked_by (request.Faults params positions) = (Faults, params.now ∷ option_to_list (option_map (λ name. name.now) positions))
-asked_by (request.Session params positions workers) = (Session workers, params.now ∷ positions.now ∷ [])
+asked_by request = (request.service, map (λ name. name.now) request.files.items)
 
 -- A roll of these bytes on this many workers may have this answer: its text, the first fault of the files, out of
 -- memory, or a rejection by the result store (book) or the published parameter set (shelf).
@@ -101,8 +84,7 @@ pub record IsOfRoll (workers : ℕ) (params next positions : List ℕ) (answer :
   pub gives : GivesRoll (λ text. text) workers params next positions given
   pub is : answer ≡ answer_of given
 
--- The answer is the command's for these bytes of its files. With any other number of files it has none. A session has
--- none either, since its answer depends on more than the bytes of its files.
+-- The answer is the command's for these bytes of its files. With any other number of files it has none.
 abbrev pub answered : Command → List (List ℕ) → Answer → Type 0
 answered Check (params ∷ []) answer = answer ≡ answer_of (counts_of params)
 answered Plan (params ∷ []) answer = answer ≡ answer_of (listing_of params)
@@ -129,11 +111,12 @@ abbrev pub IsOfSession : Outside → Result (List (List ℕ)) SpanFault → Answ
 IsOfSession outside (Ok texts) answer = (ending : Ending) × IsConversation outside ending × (answer ≡ ended_answer ending texts)
 IsOfSession outside (Err e) answer = (outside.turns ≡ []) × (answer ≡ answer_of (Err e))
 
--- the answer is the command's for these bytes of its files in this environment
-abbrev pub answered_amid : Outside → Command → List (List ℕ) → Answer → Type 0
+-- the answer is given by the service for these bytes of its files in this environment
+abbrev pub answered_amid : Outside → Service → List (List ℕ) → Answer → Type 0
+answered_amid outside (Once command) files answer = answered command files answer
 answered_amid outside (Session workers) (params ∷ positions ∷ []) answer =
     IsOfSession outside (session_of params positions outside.turns) answer
-answered_amid outside command files answer = answered command files answer
+answered_amid outside (Session workers) files answer = ⊥
 
 -- The result of reading files: the bytes of all, or the answer that names the first that cannot be read, or nothing if
 -- a file that is reached is unknown.
@@ -157,12 +140,12 @@ all_read file (name ∷ names) = read_before name (file name) (all_read file nam
 abbrev pub found_by : (List ℕ → Option File) → Asked → Found
 found_by file asked = all_read (found_under (takes_requests asked.0) file) asked.1
 
--- The answer is the command's for this result of reading its files. If the result is unknown, any answer is possible.
--- If a file cannot be read, no request is taken.
-abbrev pub IsAnswered : Outside → Command → Found → Answer → Type 0
-IsAnswered outside command None answer = ⊤
-IsAnswered outside command (Some (Err refusal)) answer = (outside.turns ≡ []) × (answer ≡ refusal)
-IsAnswered outside command (Some (Ok files)) answer = answered_amid outside command files answer
+-- The answer is given by the service for this result of reading its files. If the result is unknown, any answer is
+-- possible. If a file cannot be read, no request is taken.
+abbrev pub IsAnswered : Outside → Service → Found → Answer → Type 0
+IsAnswered outside service None answer = ⊤
+IsAnswered outside service (Some (Err refusal)) answer = (outside.turns ≡ []) × (answer ≡ refusal)
+IsAnswered outside service (Some (Ok files)) answer = answered_amid outside service files answer
 
 -- the answer is an answer to the request
 abbrev pub IsAnswer : Outside → Asked → Answer → Type 0

@@ -1,11 +1,13 @@
 -- How an answer is reported: what is printed on two writers that remember a failed write, and the status.
-use Rattle.std.specs.Prelude.{◌≡◌, ◌⊎◌, ℕ, Bool, true, List, [], ◌∷◌, Option, Some, None, codes, if◌then◌else◌}
+use Rattle.std.specs.Prelude.{◌≡◌, ◌⊎◌, ℕ, Bool, true, List, [], ◌∷◌, Option, Some, None, Result, Ok, IfSome, codes, if◌then◌else◌}
 use Rattle.clap.specs.Words.{Kinds}
 use Rattle.clap.specs.declared.error.kind.ErrorKind.{ErrorKind}
 use Rattle.clap.specs.declared.error.kind.ErrorKind.TheVariants as kind
 use Rattle.writers.specs.Streams.{Says, Stream}
-use Rattle.statement_text.specs.declared.statuses.TheConstants.{FILE_FAILED, USAGE}
-use Rattle.span_cli.specs.Serving.{Answer, Asked, IsAnswer, done, file_line, memory, refused}
+use Rattle.session.specs.Answers.{State, opened}
+use Rattle.sources.specs.Files.{File}
+use Rattle.statement_text.specs.declared.statuses.TheConstants.{DONE, FILE_FAILED, OUT_OF_MEMORY, USAGE}
+use Rattle.span_cli.specs.Serving.{Answer, Asked, IsAnswer, done, file_line, found_by, memory, refused, takes_requests}
 use Rattle.span_cli.specs.Sessions.{Outside}
 
 -- the output could not be written
@@ -45,6 +47,22 @@ Serves outside asked given old_out new_out old_err new_err =
 abbrev pub ServesAsked : Outside → Option Asked → ℕ → Stream → Stream → Stream → Stream → Type 0
 ServesAsked outside None given old_out new_out old_err new_err = ⊥
 ServesAsked outside (Some asked) given old_out new_out old_err new_err = Serves outside asked given old_out new_out old_err new_err
+
+-- these files open a session
+abbrev pub AreOpened : Result (List (List ℕ)) Answer → Type 0
+AreOpened found =
+    (params : List ℕ) × (positions : List ℕ) × (s : State) × (found ≡ Ok (params ∷ positions ∷ [])) × (opened params positions ≡ Ok s)
+
+-- The input may be read for a request with this status: a session is asked for, its files open it, as far as they are known,
+-- and the status is the one of a session that ended, or out of memory. For every other request the input is left alone.
+pub record TakesInput (file : List ℕ → Option File) (asked : Asked) (given : ℕ) : Type 0 where
+  pub takes : takes_requests asked.0 ≡ true
+  pub opens : IfSome (found_by file asked) AreOpened
+  pub status : (given ≡ DONE) ⊎ ((given ≡ FILE_FAILED) ⊎ (given ≡ OUT_OF_MEMORY))
+
+-- the same for a request, if there is one
+abbrev pub TakesInputFor : (List ℕ → Option File) → Option Asked → ℕ → Type 0
+TakesInputFor file o given = (asked : Asked) × (o ≡ Some asked) × TakesInput file asked given
 
 -- A usage error was reported, and nothing was written to the output. The text on the error stream is chosen by the
 -- parser of arguments.

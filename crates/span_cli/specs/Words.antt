@@ -12,7 +12,10 @@ use Rattle.clap.specs.declared.builder.value_parser.ValueParser.TheVariants as v
 use Rattle.clap.specs.declared.error.kind.ErrorKind.TheVariants as kind
 use Rattle.span_tables.specs.Names.{name_of}
 use Rattle.worker_pool.specs.declared.batch.TheConstants.{MAX_WORKERS}
-use Rattle.span_cli.specs.Serving.{Asked, Command, Check, Explain, Faults, Margin, Plan, Roll, Session, WhatIf}
+use Rattle.span_cli.specs.Serving.{Asked}
+use Rattle.span_cli.specs.declared.requests.Command.TheVariants.{Check, Explain, Faults, Margin, Plan, Roll, WhatIf}
+use Rattle.span_cli.specs.declared.requests.Service.{Service}
+use Rattle.span_cli.specs.declared.requests.Service.TheVariants.{Once, Session}
 
 -- The arguments, with each `--account` and the argument after it, whatever that is, joined into one. A `--` and
 -- everything after it stay as they are.
@@ -77,37 +80,39 @@ account_option (Some text) = option_map (λ name. Some name) (name_of text)
 abbrev pub account_in : List Row → Option (Option Text)
 account_in rows = account_option (first_of (codes "account") rows)
 
--- the name of a command, its files in their order, its options, and the command that their values make
+-- the name of a command, its files in their order, its options, and the service that their values ask for
 pub record CommandWords : Type 0 where
   pub name : Text
   pub files : List FileWord
   pub options : List Rule
-  pub asks : List Row → Option Command
+  pub asks : List Row → Option Service
 
--- commands with a number of workers, and with an account
-abbrev pub with_workers : (ℕ → Command) → List Row → Option Command
-with_workers command rows = option_map command (workers_in rows)
+-- services with a number of workers, and with an account
+abbrev pub with_workers : (ℕ → Service) → List Row → Option Service
+with_workers service rows = option_map service (workers_in rows)
 
-abbrev pub with_account_option : (Option Text → Command) → List Row → Option Command
-with_account_option command rows = option_map command (account_in rows)
+abbrev pub with_account_option : (Option Text → Service) → List Row → Option Service
+with_account_option service rows = option_map service (account_in rows)
 
 -- the arguments of a command
-abbrev pub words_of : Text → List FileWord → List Rule → (List Row → Option Command) → CommandWords
+abbrev pub words_of : Text → List FileWord → List Rule → (List Row → Option Service) → CommandWords
 words_of name files options asks = record { name = name; files = files; options = options; asks = asks }
 
 -- all commands, one on each line, in the order of the help text
 abbrev pub commands : List CommandWords
 commands =
-    words_of (codes "margin") (needed (codes "PARAMS" ∷ codes "POSITIONS" ∷ [])) (workers_rule ∷ []) (with_workers Margin)
-    ∷ words_of (codes "explain") (needed (codes "PARAMS" ∷ codes "POSITIONS" ∷ [])) (account_rule ∷ []) (with_account_option Explain)
+    words_of (codes "margin") (needed (codes "PARAMS" ∷ codes "POSITIONS" ∷ [])) (workers_rule ∷ [])
+    (with_workers (λ workers. Once (Margin workers)))
+    ∷ words_of (codes "explain") (needed (codes "PARAMS" ∷ codes "POSITIONS" ∷ [])) (account_rule ∷ [])
+    (with_account_option (λ account. Once (Explain account)))
     ∷ words_of (codes "whatif") (needed (codes "PARAMS" ∷ codes "POSITIONS" ∷ codes "ORDERS" ∷ [])) (workers_rule ∷ [])
-    (with_workers WhatIf)
+    (with_workers (λ workers. Once (WhatIf workers)))
     ∷ words_of (codes "session") (needed (codes "PARAMS" ∷ codes "POSITIONS" ∷ [])) (workers_rule ∷ []) (with_workers Session)
     ∷ words_of (codes "roll") (needed (codes "PARAMS" ∷ codes "NEXT" ∷ codes "POSITIONS" ∷ [])) (workers_rule ∷ [])
-    (with_workers Roll)
-    ∷ words_of (codes "faults") (needed (codes "PARAMS" ∷ []) ++ optional (codes "POSITIONS" ∷ [])) [] (λ rows. Some Faults)
-    ∷ words_of (codes "check") (needed (codes "PARAMS" ∷ [])) [] (λ rows. Some Check)
-    ∷ words_of (codes "plan") (needed (codes "PARAMS" ∷ [])) [] (λ rows. Some Plan)
+    (with_workers (λ workers. Once (Roll workers)))
+    ∷ words_of (codes "faults") (needed (codes "PARAMS" ∷ []) ++ optional (codes "POSITIONS" ∷ [])) [] (λ rows. Some (Once Faults))
+    ∷ words_of (codes "check") (needed (codes "PARAMS" ∷ [])) [] (λ rows. Some (Once Check))
+    ∷ words_of (codes "plan") (needed (codes "PARAMS" ∷ [])) [] (λ rows. Some (Once Plan))
     ∷ []
 
 -- a command with these arguments after its own

@@ -7,6 +7,7 @@ pub mod laws;
 pub mod memory;
 pub mod outputs;
 pub mod reading;
+pub mod requests;
 pub mod serving;
 mod sessions;
 pub mod streams;

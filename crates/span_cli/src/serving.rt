@@ -1,19 +1,20 @@
-//! Requests, and what is written for each.
+//! Answers requests.
 ghost use Rattle.session.specs.Answers.{is_stdin};
-ghost use Rattle.session.specs.Conversations.{AreFromSource, Turn, opening_text};
+ghost use Rattle.session.specs.Conversations.{Turn};
 ghost use Rattle.sources.specs.Reads.{ReadsInOrder};
 ghost use Rattle.span_cli.specs.Reads.{ReadsAsked};
-ghost use Rattle.span_cli.specs.Serving.{IsOfRoll, all_read, answer_of_faults, asked_by, done, memory, takes_requests};
+ghost use Rattle.span_cli.specs.Serving.{IsOfRoll, all_read, answer_of_faults, answered, asked_by, done, takes_requests};
 ghost use Rattle.span_cli.specs.Sessions.{around, found_under, reads_under};
-ghost use Rattle.span_cli.specs.Telling.{Serves, Tells};
-ghost use Rattle.span_cli.specs.near.Refusals.{Comes, IsOutcome, Loads, LoadsAll, MayGive, Runs, given_answer, refusal_line};
+ghost use Rattle.span_cli.specs.Telling.{Serves, TakesInput, Tells};
+ghost use Rattle.span_cli.specs.near.Refusals.{Loads, LoadsAll, MayGive, Opens, TellsSome, given_answer, refusal_line};
 ghost use Rattle.span_cli.specs.near.Refusals.{refusal_status};
-ghost use Rattle.span_cli.specs.near.Sessions.{TellsSession};
+ghost use Rattle.span_cli.specs.near.Requests.{HasFiles};
 ghost use Rattle.span_cli.specs.declared.serving.Refusal.TheVariants as refusal;
 ghost use Rattle.statement.specs.AllFaults.{faults_of};
 ghost use Rattle.writers.specs.Streams.{Says};
-ghost use Rattle.std.specs.Prelude.{◌≡◌, ◌≤◌, ◌⊎◌, ◌&&◌, [], IfOk, IfSome, List, Some, false, is_ok, length, map, option_map, ℕ};
+ghost use Rattle.std.specs.Prelude.{◌≡◌, ◌≤◌, ◌⊎◌, ◌&&◌, IfOk, IfSome, List, Some, false, is_ok, length, map, option_map, ℕ};
 
+use crate::requests::{Command, Request, Service};
 use crate::sessions::serve_session;
 use arrayvec::ArrayVec;
 use desks::intake::Requests;
@@ -21,7 +22,6 @@ use explanation::explaining::explain;
 use result_book::books::ResultBook;
 use session::session::{Opened, Session, Workers};
 use sources::{ReadFault, Sources};
-use span_tables::name::Name;
 use statement::all_faults::{faults, faults_status, faults_text};
 use statement::counts::check_plain;
 use statement::margin::margin;
@@ -42,118 +42,11 @@ use writers::marked_writer::MarkedWriter;
 /// The name of the file that is the stream of requests in a session.
 const STDIN: &str = "/dev/stdin";
 
-/// A request to the program, with the names of its files.
-#[derive(Debug, Drop)]
-pub enum Request<'a> {
-    /// The counts of a parameter file.
-    Check {
-        params: &'a str,
-    },
-    /// The steps of the compiled plan of a parameter file.
-    Plan {
-        params: &'a str,
-    },
-    /// The statement of a position file under a parameter file, computed by 1 to 16 workers.
-    Margin {
-        params: &'a str,
-        positions: &'a str,
-        workers: usize,
-    },
-    /// The statement with the reasons for every figure, for all accounts or for one.
-    Explain {
-        params: &'a str,
-        positions: &'a str,
-        account: Option<Name>,
-    },
-    /// The statement of a position file under a parameter file, then its statement under the next, computed by 1 to 16
-    /// workers.
-    Roll {
-        params: &'a str,
-        next: &'a str,
-        positions: &'a str,
-        workers: usize,
-    },
-    /// What each order of a file would do to the margin of its account, computed by 1 to 16 workers.
-    WhatIf {
-        params: &'a str,
-        positions: &'a str,
-        orders: &'a str,
-        workers: usize,
-    },
-    /// All faults of a parameter file, and of a position file if there is one.
-    Faults {
-        params: &'a str,
-        positions: Option<&'a str>,
-    },
-    /// The answers to requests about the accounts of a position file under a parameter file. A request for all accounts
-    /// is shared by 1 to 16 workers.
-    Session {
-        params: &'a str,
-        positions: &'a str,
-        workers: usize,
-    },
-}
-
-// A list of at most three names.
-fn listed<'a>(names: &[&'a str]) -> ArrayVec<&'a str, 3>
-    requires { length names.now ≤ 3 }
-    ensures { result.items ≡ names.now }
+// Whether more requests are read from the input.
+fn takes_requests(service: &Service) -> bool
+    ensures { result ≡ takes_requests service.now }
 {
-    ArrayVec::try_from(names).unwrap()
-}
-
-impl<'a> Request<'a> {
-    // The names of the request's files, in the order in which they are read.
-    fn files(&self) -> ArrayVec<&'a str, 3>
-        ensures { map (λ name. name.now) result.items ≡ (asked_by self.now).1 }
-    {
-        match self {
-            Request::Check { params }
-            | Request::Plan { params }
-            | Request::Faults {
-                params,
-                positions: None,
-            } => listed(&[params]),
-            Request::Margin {
-                params,
-                positions,
-                ..
-            }
-            | Request::Explain {
-                params,
-                positions,
-                ..
-            }
-            | Request::Faults {
-                params,
-                positions: Some(positions),
-            }
-            | Request::Session {
-                params,
-                positions,
-                ..
-            } => listed(&[params, positions]),
-            Request::Roll {
-                params,
-                next,
-                positions,
-                ..
-            } => listed(&[params, next, positions]),
-            Request::WhatIf {
-                params,
-                positions,
-                orders,
-                ..
-            } => listed(&[params, positions, orders]),
-        }
-    }
-
-    // Whether the request reads more requests from the input.
-    fn takes_requests(&self) -> bool
-        ensures { result ≡ takes_requests (asked_by self.now).0 }
-    {
-        matches!(self, Request::Session { .. })
-    }
+    matches!(service, Service::Session(_))
 }
 
 // Why a request is rejected.
@@ -223,28 +116,30 @@ fn load_all<'a, S: Sources>(
     Ok(files)
 }
 
-// What all requests share: a runtime, an allocator, and the gate that workers pass.
+/// What all requests share: a runtime, an allocator, and the gate that workers pass.
 #[derive(Drop)]
-pub(crate) struct ServingMeans<'a, R, G: Gate> {
-    pub(crate) rt: &'a R,
-    pub(crate) alloc: Global,
-    pub(crate) gate: &'a G,
+pub struct ServingMeans<'a, R, G: Gate> {
+    pub rt: &'a R,
+    pub alloc: Global,
+    pub gate: &'a G,
 }
 
-// The result of a request: the bytes for the output, and the status.
+impl<'a, R, G: Gate> ServingMeans<'a, R, G> {
+    // This number of workers.
+    fn workers(&self, count: usize) -> Workers<'a, R, G> {
+        Workers {
+            rt: self.rt,
+            count,
+            gate: self.gate,
+        }
+    }
+}
+
+// The answer to a command: the bytes for the output, and the status.
 #[derive(Drop)]
 struct Given {
     text: Vec<u8>,
     status: u8,
-}
-
-// The outcome of a request.
-#[derive(Drop)]
-enum Outcome {
-    // The result of a request that is answered at once.
-    Answer(Given),
-    // An open session, and its number of workers.
-    Session(Opened, usize),
 }
 
 // These bytes with the status of success.
@@ -282,73 +177,57 @@ fn rolled<R: Threads + Wait + Clock + Sync, G: Gate>(
     )
 }
 
-// The outcome of a request for the bytes of its files.
+// The answer to a command, from the bytes of its files.
 fn answer<R: Threads + Wait + Clock + Sync, G: Gate>(
     lent: &ServingMeans<'_, R, G>,
-    request: &Request<'_>,
+    command: &Command,
     files: &[Vec<u8>],
-) -> Result<Outcome, SpanFault>
-    requires { length files.now ≡ length (asked_by request.now).1 }
-    ensures answer { Comes (asked_by request.now).0 (map (λ file. file.items) files.now) result }
-    ensures session { IfOk result (IsOutcome (asked_by request.now).0) }
+) -> Result<Given, SpanFault>
+    requires { HasFiles (Service.Once command.now) (length files.now) }
+    ensures { MayGive given_answer result (answered command.now (map (λ file. file.items) files.now)) }
 {
     let (rt, alloc, gate) = (lent.rt, lent.alloc, lent.gate);
-    match (request, files) {
-        (Request::Check { .. }, [params]) => {
-            Ok(Outcome::Answer(done(check_plain(alloc, params)?)))
-        }
-        (Request::Plan { .. }, [params]) => Ok(Outcome::Answer(done(plan_plain(alloc, params)?))),
-        (Request::Margin { workers, .. }, [params, positions]) => {
+    match (command, files) {
+        (Command::Check, [params]) => Ok(done(check_plain(alloc, params)?)),
+        (Command::Plan, [params]) => Ok(done(plan_plain(alloc, params)?)),
+        (Command::Margin(workers), [params, positions]) => {
             let text = margin(rt, alloc, params, positions, *workers, gate)?;
-            Ok(Outcome::Answer(done(text)))
+            Ok(done(text))
         }
-        (Request::Explain { account, .. }, [params, positions]) => {
+        (Command::Explain(account), [params, positions]) => {
             let text = explain(alloc, params, positions, account.as_ref())?;
-            Ok(Outcome::Answer(done(text)))
+            Ok(done(text))
         }
-        (Request::Roll { workers, .. }, [params, next, positions]) => {
+        (Command::Roll(workers), [params, next, positions]) => {
             let text = rolled(lent, params, next, positions, *workers)?;
-            Ok(Outcome::Answer(done(text)))
+            Ok(done(text))
         }
-        (Request::WhatIf { workers, .. }, [params, positions, orders]) => {
+        (Command::WhatIf(workers), [params, positions, orders]) => {
             let text = whatif(rt, alloc, params, positions, orders, *workers, gate)?;
-            Ok(Outcome::Answer(done(text)))
+            Ok(done(text))
         }
-        (Request::Faults { .. }, [params]) => {
-            Ok(Outcome::Answer(faults_told(alloc, params, None)?))
-        }
-        (Request::Faults { .. }, [params, positions]) => {
+        (Command::Faults, [params]) => Ok(faults_told(alloc, params, None)?),
+        (Command::Faults, [params, positions]) => {
             let given = faults_told(alloc, params, Some(positions.as_slice()))?;
-            Ok(Outcome::Answer(given))
-        }
-        (Request::Session { workers, .. }, [params, positions]) => {
-            let opened = Session::open(rt, alloc, params, positions, *workers)?;
-            Ok(Outcome::Session(opened, *workers))
+            Ok(given)
         }
         _ => unreachable!(),
     }
 }
 
-// The outcome of a request.
-fn run<'a, S: Sources, R: Threads + Wait + Clock + Sync, G: Gate>(
+// A session over the bytes of its files.
+fn open<R: Threads + Wait + Clock + Sync, G: Gate>(
     lent: &ServingMeans<'_, R, G>,
-    request: &Request<'a>,
-    sources: &mut S,
-) -> Result<Outcome, Refusal<'a>>
-    ensures answer { Runs (S.file sources.old) (asked_by request.now) result }
-    ensures session { IfOk result (IsOutcome (asked_by request.now).0) }
-    ensures reads { ReadsInOrder (reads_under (takes_requests (asked_by request.now).0) S.reads) sources.old
-        (asked_by request.now).1 sources.new }
-    ensures same { (n : List ℕ) → S.file sources.new n ≡ S.file sources.old n }
+    workers: usize,
+    files: &[Vec<u8>],
+) -> Result<Opened, SpanFault>
+    requires { length files.now ≡ 2 }
+    ensures { Opens (map (λ file. file.items) files.now) result }
 {
-    let files = load_all(
-        lent.alloc,
-        sources,
-        &request.files(),
-        request.takes_requests(),
-    )?;
-    let outcome = answer(lent, request, &files)?;
-    Ok(outcome)
+    match files {
+        [params, positions] => Session::open(lent.rt, lent.alloc, params, positions, workers),
+        _ => unreachable!(),
+    }
 }
 
 // The status of a rejection.
@@ -400,32 +279,21 @@ fn give<W: Write, E: Write>(
     }
 }
 
-// Serves an open session over the requests of an input, on this number of workers, and returns the status.
-fn converse<
-    I: Read + Drop,
-    S: Sources,
-    W: Write,
-    E: Write,
-    R: Threads + Wait + Clock + Sync,
-    G: Gate,
->(
-    workers: &Workers<'_, R, G>,
-    alloc: Global,
-    opened: Opened,
-    sources: &mut S,
-    input: I,
+// Answers a command from the bytes of its files, and returns the status.
+fn serve_once<W: Write, E: Write, R: Threads + Wait + Clock + Sync, G: Gate>(
+    lent: &ServingMeans<'_, R, G>,
+    command: &Command,
+    files: &[Vec<u8>],
     out: &mut MarkedWriter<W>,
     err: &mut MarkedWriter<E>,
 ) -> u8
-    requires text { opened.text.items ≡ opening_text opened.session }
+    requires files { HasFiles (Service.Once command.now) (length files.now) }
     requires fresh { out.old.failed ≡ false }
-    ensures { (turns : List Turn) × AreFromSource (S.file sources.old) S.reads sources.old turns sources.new
-        × (TellsSession (S.file sources.old) (I.remaining input) opened.session turns result out.old out.new err.old err.new
-        ⊎ ((turns ≡ []) × Tells memory result out.old out.new err.old err.new)) }
+    ensures { TellsSome (answered command.now (map (λ file. file.items) files.now)) result out.old out.new err.old err.new }
 {
-    match Requests::new(alloc, input) {
-        Ok(requests) => serve_session(workers, opened, sources, requests, out, err),
-        Err(_) => refuse(Refusal::Fault(SpanFault::Memory), err),
+    match answer(lent, command, files) {
+        Ok(given) => give(given, out, err),
+        Err(fault) => refuse(Refusal::Fault(fault), err),
     }
 }
 
@@ -437,38 +305,39 @@ fn converse<
 /// the status does not change. No write to `out` may have failed before. The workers of a statement pass the gate
 /// before each step.
 ///
-/// A session reads requests from `input` after its two files are accepted. Nothing else reads it. The turns in the
-/// contract are the requests, with what happened while they were answered. The bytes on `out` are the answers to them,
-/// to the end of the input. If a read of the input fails, the answers so far stay, the status is 6, and the line is
-/// `file: input`.
-pub fn serve<
-    S: Sources,
-    I: Read + Drop,
-    W: Write,
-    E: Write,
-    R: Threads + Wait + Clock + Sync,
-    G: Gate,
->(
-    rt: &R,
-    alloc: Global,
+/// A session reads requests from `input` after its two files are accepted. Nothing else reads it: for a command, and for
+/// a session that is rejected, `input` stays as it is. The turns in the contract are the requests, with what happened
+/// while they were answered. The bytes on `out` are the answers to them, to the end of the input. If a read of the input
+/// fails, the answers so far stay, the status is 6, and the line is `file: input`.
+pub fn serve<S: Sources, I: Read, W: Write, E: Write, R: Threads + Wait + Clock + Sync, G: Gate>(
+    lent: &ServingMeans<'_, R, G>,
     request: Request<'_>,
     sources: &mut S,
-    gate: &G,
-    input: I,
+    input: &mut I,
     out: &mut MarkedWriter<W>,
     err: &mut MarkedWriter<E>,
 ) -> u8
     requires { out.old.failed ≡ false }
-    ensures { (turns : List Turn) × Serves (around (S.file sources.old) (I.remaining input) turns out.new.failed) (asked_by request.entry)
+    ensures answer { (turns : List Turn)
+        × Serves (around (S.file sources.old) (I.remaining input.old) turns out.new.failed) (asked_by request.entry)
         result out.old out.new err.old err.new × ReadsAsked S.reads sources.old turns (Some (asked_by request.entry)) sources.new }
+    ensures input { (input.new ≡ input.old) ⊎ TakesInput (S.file sources.old) (asked_by request.entry) result }
 {
-    let lent = ServingMeans { rt, alloc, gate };
-    match run(&lent, &request, sources) {
-        Ok(Outcome::Answer(given)) => give(given, out, err),
-        Ok(Outcome::Session(opened, count)) => {
-            let workers = Workers { rt, count, gate };
-            converse(&workers, alloc, opened, sources, input, out, err)
-        }
-        Err(refusal) => refuse(refusal, err),
+    let Request { service, files } = &request;
+    let files = match load_all(lent.alloc, sources, files, takes_requests(service)) {
+        Ok(files) => files,
+        Err(refusal) => return refuse(refusal, err),
+    };
+    match service {
+        Service::Once(command) => serve_once(lent, command, &files, out, err),
+        Service::Session(count) => match open(lent, *count, &files) {
+            Ok(opened) => match Requests::new(lent.alloc, input) {
+                Ok(requests) => {
+                    serve_session(&lent.workers(*count), opened, sources, requests, out, err)
+                }
+                Err(_) => refuse(Refusal::Fault(SpanFault::Memory), err),
+            },
+            Err(fault) => refuse(Refusal::Fault(fault), err),
+        },
     }
 }

@@ -6,9 +6,9 @@ ghost use Rattle.session.specs.Conversations.{Turn};
 ghost use Rattle.span_cli.specs.CommandLines.{AnswersLine};
 ghost use Rattle.span_cli.specs.Serving.{asked_by};
 ghost use Rattle.span_cli.specs.Sessions.{around};
-ghost use Rattle.span_cli.specs.Telling.{IsMistake, IsShown, RefusesWords, no_text_line};
+ghost use Rattle.span_cli.specs.Telling.{IsMistake, IsShown, RefusesWords, TakesInputFor, no_text_line};
 ghost use Rattle.span_cli.specs.Words.{account_in, account_rule, app_without_commands, asked_among, asked_in, commands, form_kinds};
-ghost use Rattle.span_cli.specs.Words.{is_request, joined_words, kinds_of, number_in, span_app};
+ghost use Rattle.span_cli.specs.Words.{is_request, joined_words, kinds_of, number_in, request_in, span_app};
 ghost use Rattle.span_cli.specs.Words.{with_commands, with_rules, workers_in, workers_rule};
 ghost use Rattle.span_cli.specs.near.Rows.{file_rule_of, option_rule, row_app};
 ghost use Rattle.writers.specs.Streams.{Says};
@@ -19,7 +19,9 @@ ghost use Rattle.std.specs.Prelude.{◌≡◌, ◌≢◌, ◌⊎◌, IfErr, IfOk
 
 use crate::joining::join_words;
 use crate::outputs::{ErrorStream, OutputStream};
-use crate::serving::{Request, ServingMeans, serve};
+use crate::requests;
+use crate::requests::{Request, Service};
+use crate::serving::{ServingMeans, serve};
 use clap::builder::ValueParser;
 use clap::error::ErrorKind;
 use clap::{Arg, ArgMatches, Command, Error};
@@ -517,42 +519,39 @@ fn request_under<'a>(name: &str, matches: &ArgMatches<'a>) -> Option<Request<'a>
 {
     let file = |file: FileArg| text(matches, file.id);
     let params = file(PARAMS)?;
-    match name {
-        "margin" => Some(Request::Margin {
-            params,
-            positions: file(POSITIONS)?,
-            workers: workers_asked(matches)?,
-        }),
-        "explain" => Some(Request::Explain {
-            params,
-            positions: file(POSITIONS)?,
-            account: account_asked(matches)?,
-        }),
-        "whatif" => Some(Request::WhatIf {
-            params,
-            positions: file(POSITIONS)?,
-            orders: file(ORDERS)?,
-            workers: workers_asked(matches)?,
-        }),
-        "session" => Some(Request::Session {
-            params,
-            positions: file(POSITIONS)?,
-            workers: workers_asked(matches)?,
-        }),
-        "roll" => Some(Request::Roll {
-            params,
-            next: file(NEXT)?,
-            positions: file(POSITIONS)?,
-            workers: workers_asked(matches)?,
-        }),
-        "faults" => Some(Request::Faults {
-            params,
-            positions: file(POSITIONS_TOO),
-        }),
-        "check" => Some(Request::Check { params }),
-        "plan" => Some(Request::Plan { params }),
-        _ => None,
-    }
+    let request = match name {
+        "margin" => Request::new(
+            Service::Once(requests::Command::Margin(workers_asked(matches)?)),
+            &[params, file(POSITIONS)?],
+        ),
+        "explain" => Request::new(
+            Service::Once(requests::Command::Explain(account_asked(matches)?)),
+            &[params, file(POSITIONS)?],
+        ),
+        "whatif" => Request::new(
+            Service::Once(requests::Command::WhatIf(workers_asked(matches)?)),
+            &[params, file(POSITIONS)?, file(ORDERS)?],
+        ),
+        "session" => Request::new(
+            Service::Session(workers_asked(matches)?),
+            &[params, file(POSITIONS)?],
+        ),
+        "roll" => Request::new(
+            Service::Once(requests::Command::Roll(workers_asked(matches)?)),
+            &[params, file(NEXT)?, file(POSITIONS)?],
+        ),
+        "faults" => match file(POSITIONS_TOO) {
+            Some(positions) => Request::new(
+                Service::Once(requests::Command::Faults),
+                &[params, positions],
+            ),
+            None => Request::new(Service::Once(requests::Command::Faults), &[params]),
+        },
+        "check" => Request::new(Service::Once(requests::Command::Check), &[params]),
+        "plan" => Request::new(Service::Once(requests::Command::Plan), &[params]),
+        _ => return None,
+    };
+    Some(request)
 }
 
 // The request that the matches make, if they make one.
@@ -660,7 +659,7 @@ fn refuse<W: Write, E: Write>(
 fn answer_words<
     T: AsStr,
     S: Sources,
-    I: Read + Drop,
+    I: Read,
     W: Write,
     E: Write,
     R: Threads + Wait + Clock + Sync,
@@ -669,17 +668,17 @@ fn answer_words<
     lent: &ServingMeans<'_, R, G>,
     words: &[T],
     sources: &mut S,
-    input: I,
+    input: &mut I,
     out: &mut MarkedWriter<W>,
     err: &mut MarkedWriter<E>,
 ) -> u8
     requires { out.old.failed ≡ false }
-    ensures { (turns : List Turn) × AnswersLine (around (S.file sources.old) (I.remaining input) turns out.new.failed) S.reads
+    ensures answer { (turns : List Turn) × AnswersLine (around (S.file sources.old) (I.remaining input.old) turns out.new.failed) S.reads
         sources.old sources.new (map T.text words.now) result out.old out.new err.old err.new }
+    ensures input { (input.new ≡ input.old) ⊎ TakesInputFor (S.file sources.old) (request_in (map T.text words.now)) result }
 {
-    let (rt, alloc, gate) = (lent.rt, lent.alloc, lent.gate);
-    match request(alloc, words) {
-        Ok(request) => serve(rt, alloc, request, sources, gate, input, out, err),
+    match request(lent.alloc, words) {
+        Ok(request) => serve(lent, request, sources, input, out, err),
         Err(error) => refuse(error, out, err),
     }
 }
@@ -694,28 +693,27 @@ fn answer_words<
 pub fn run_words<
     T: AsStr,
     S: Sources,
-    I: Read + Drop,
+    I: Read,
     W: OutputStream,
     E: ErrorStream,
     R: Threads + Wait + Clock + Sync,
     G: Gate,
 >(
-    rt: &R,
-    alloc: Global,
+    lent: &ServingMeans<'_, R, G>,
     words: &[T],
     sources: &mut S,
-    gate: &G,
-    input: I,
+    input: &mut I,
     out: &mut MarkedWriter<W>,
     err: &mut MarkedWriter<E>,
 ) -> u8
     requires { out.old.failed ≡ false }
-    ensures { (turns : List Turn) × AnswersLine (around (S.file sources.old) (I.remaining input) turns out.new.failed) S.reads
+    ensures answer { (turns : List Turn) × AnswersLine (around (S.file sources.old) (I.remaining input.old) turns out.new.failed) S.reads
         sources.old sources.new (joined_words (map T.text words.now)) result out.old out.new err.old err.new }
+    ensures input { (input.new ≡ input.old)
+        ⊎ TakesInputFor (S.file sources.old) (request_in (joined_words (map T.text words.now))) result }
 {
-    let lent = ServingMeans { rt, alloc, gate };
-    match join_words(alloc, words) {
-        Ok(joined) => answer_words(&lent, &joined, sources, input, out, err),
+    match join_words(lent.alloc, words) {
+        Ok(joined) => answer_words(lent, &joined, sources, input, out, err),
         Err(error) => refuse(Error::from(error), out, err),
     }
 }

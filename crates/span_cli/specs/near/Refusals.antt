@@ -1,21 +1,20 @@
 -- What the library knows of a rejection.
-use Rattle.std.specs.Prelude.{◌≡◌, ◌⊎◌, ℕ, true, List, [], ◌∷◌, ◌++◌, Option, Some, None, IfSome, Result, Ok, Err, ⊤}
+use Rattle.std.specs.Prelude.{◌≡◌, ◌⊎◌, ℕ, List, [], ◌∷◌, ◌++◌, Some, None, Result, Ok, Err}
 use Rattle.session.specs.Answers.{opened}
 use Rattle.session.specs.Conversations.{opening_text}
+use Rattle.session.specs.declared.session.Opened.{Opened}
 use Rattle.statement_text.specs.FaultLines.{fault_line, fault_status}
 use Rattle.statement_text.specs.declared.faults.SpanFault.{SpanFault}
 use Rattle.statement_text.specs.declared.faults.SpanFault.TheVariants as fault
 use Rattle.statement_text.specs.declared.statuses.TheConstants.{FILE_FAILED}
-use Rattle.span_cli.specs.Serving.{Answer, Asked, Command, Found, IsAnswer, Session, answer_of, answered, file_line, found_by, refused}
-use Rattle.span_cli.specs.Serving.{takes_requests}
-use Rattle.span_cli.specs.Sessions.{Outside}
+use Rattle.span_cli.specs.Serving.{Answer, Found, answer_of, file_line, memory, refused}
+use Rattle.span_cli.specs.Telling.{Tells}
 use Rattle.sources.specs.Files.{File}
 use Rattle.span_cli.specs.declared.serving.Given.{Given}
-use Rattle.span_cli.specs.declared.serving.Outcome.{Outcome}
-use Rattle.span_cli.specs.declared.serving.Outcome.TheVariants as outcome
 use Rattle.span_cli.specs.declared.serving.Refusal.{Refusal}
 use Rattle.span_cli.specs.declared.serving.Refusal.TheVariants as refusal
 use Rattle.sources.specs.declared.ReadFault.TheVariants as read
+use Rattle.writers.specs.Streams.{Stream}
 
 -- the line of a rejection
 abbrev pub refusal_line : Refusal → List ℕ
@@ -57,33 +56,16 @@ read_then files None = None
 read_then files (Some (Err refusal)) = Some (Err refusal)
 read_then files (Some (Ok others)) = Some (Ok (files ++ others))
 
--- ---- the outcome of a request
+-- ---- services
 
--- a session that was opened belongs to the command, and has the first answer of its state
-abbrev pub IsOutcome : Command → Outcome → Type 0
-IsOutcome command (outcome.Answer given) = ⊤
-IsOutcome command (outcome.Session o count) = (takes_requests command ≡ true) × (o.text.items ≡ opening_text o.session)
+-- a session over these files was opened, or rejected for their fault, unless memory ran out
+abbrev pub Opens : List (List ℕ) → Result Opened SpanFault → Type 0
+Opens (params ∷ positions ∷ []) (Ok o) = (opened params positions ≡ Ok o.session) × (o.text.items ≡ opening_text o.session)
+Opens (params ∷ positions ∷ []) (Err e) = (e ≡ fault.Memory) ⊎ (opened params positions ≡ Err e)
+Opens files r = ⊥
 
--- the outcome for these files is the command's
-abbrev pub ComesOf : Command → List (List ℕ) → Outcome → Type 0
-ComesOf command files (outcome.Answer given) = answered command files (given_answer given)
-ComesOf (Session workers) (params ∷ positions ∷ []) (outcome.Session o count) = opened params positions ≡ Ok o.session
-ComesOf command files (outcome.Session o count) = ⊥
-
--- the fault is the command's for these files
-abbrev pub Refuses : Command → List (List ℕ) → SpanFault → Type 0
-Refuses (Session workers) (params ∷ positions ∷ []) e = opened params positions ≡ Err e
-Refuses command files e = answered command files (answer_of (Err e))
-
--- the outcome for these files is the command's, unless memory ran out
-abbrev pub Comes : Command → List (List ℕ) → Result Outcome SpanFault → Type 0
-Comes command files (Ok came) = ComesOf command files came
-Comes command files (Err e) = (e ≡ fault.Memory) ⊎ Refuses command files e
-
--- the outcome of the request for these files, unless memory ran out
-abbrev pub Runs : (List ℕ → Option File) → Asked → Result Outcome Refusal → Type 0
-Runs file asked (Ok came) =
-    IfSome (found_by file asked) (λ found. (files : List (List ℕ)) × (found ≡ Ok files) × ComesOf asked.0 files came)
-Runs file asked (Err r) =
-    (r ≡ refusal.Fault fault.Memory)
-    ⊎ ((outside : Outside) → outside.file ≡ file → outside.turns ≡ [] → IsAnswer outside asked (refusal_answer r))
+-- an answer with the property P was reported, or out of memory
+abbrev pub TellsSome : (Answer → Type 0) → ℕ → Stream → Stream → Stream → Stream → Type 0
+TellsSome P given old_out new_out old_err new_err =
+    ((answer : Answer) × P answer × Tells answer given old_out new_out old_err new_err)
+    ⊎ Tells memory given old_out new_out old_err new_err

@@ -1,12 +1,13 @@
 use Rattle.std.proofs.Common.{[], inl, map, refl}
+use Rattle.span_cli.specs.Serving.{asked_by}
 use Rattle.span_cli.specs.Words.{asked_in, kinds_of}
 use Rattle.span_cli.proofs.WordsLaws.{taken_asks, unrefused_asks, unrefused_taken}
 use Rattle.span_cli.proofs.ReadLemmas.{nothing_read}
-use Rattle.span_cli.proofs.ServingLemmas.{memory_serves, memory_told, words_refused}
+use Rattle.span_cli.proofs.ServingLemmas.{input_for, memory_serves, memory_told, words_refused}
 use Rattle.span_cli.proofs.words.answer_words.Goals as goal
 
-pub returns-in-Err : goal.returns-in-Err
-returns-in-Err g c =
+pub returns-in-Err-clause-answer : goal.returns-in-Err-clause-answer
+returns-in-Err-clause-answer g c =
     let words = map g.T.AsStr.text c.args.words.now in (
       [],
       record {
@@ -19,10 +20,10 @@ returns-in-Err g c =
       },
     )
 
-pub returns-in-Ok : goal.returns-in-Ok
-returns-in-Ok g c =
+pub returns-in-Ok-clause-answer : goal.returns-in-Ok-clause-answer
+returns-in-Ok-clause-answer g c =
     let words = map g.T.AsStr.text c.args.words.now in
-    let served = c.serve.ensures in (
+    let served = c.serve.ensures.answer in (
       served.0,
       record {
         taken = λ taken. rw (c.in-Ok.ensures.ok) served.1;
@@ -30,3 +31,12 @@ returns-in-Ok g c =
         read = inl (rw (unrefused_taken words c.in-Ok.ensures.kinds, c.in-Ok.ensures.ok) served.2);
       },
     )
+
+pub returns-in-Err-clause-input : goal.returns-in-Err-clause-input
+returns-in-Err-clause-input g c = inl refl
+
+pub returns-in-Ok-clause-input : goal.returns-in-Ok-clause-input
+returns-in-Ok-clause-input g c =
+    let words = map g.T.AsStr.text c.args.words.now in
+    input_for (g.S.Sources.file c.args.sources.now) words (asked_by c.in-Ok.request) c.serve.result
+    (unrefused_taken words c.in-Ok.ensures.kinds) c.in-Ok.ensures.ok c.serve.ensures.input

@@ -7,11 +7,11 @@ use Rattle.span_cli.proofs.ReadLemmas.{nothing_read}
 use Rattle.span_cli.proofs.ServingLemmas.{memory_serves, memory_told, words_refused}
 use Rattle.span_cli.proofs.words.run_words.Goals as goal
 
-pub returns-in-Ok : goal.returns-in-Ok
-returns-in-Ok g c = rw (← c.in-Ok.ensures, ← c.deref.ensures.value) c.answer_words.ensures
+pub returns-in-Ok-clause-answer : goal.returns-in-Ok-clause-answer
+returns-in-Ok-clause-answer g c = rw (← c.in-Ok.ensures, ← c.deref.ensures.value) c.answer_words.ensures.answer
 
-pub returns-in-Err : goal.returns-in-Err
-returns-in-Err g c =
+pub returns-in-Err-clause-answer : goal.returns-in-Err-clause-answer
+returns-in-Err-clause-answer g c =
     let words = joined_words (map g.T.AsStr.text c.args.words.now) in
     let wanted : kind_of c.from.result ≡ OutOfMemory = search rules in (
       [],
@@ -23,3 +23,9 @@ returns-in-Err g c =
         read = nothing_read g.S.Sources.reads _ words _ (λ taken. memory_told c.from.result _ _ _ _ _ wanted c.refuse.ensures);
       },
     )
+
+pub returns-in-Ok-clause-input : goal.returns-in-Ok-clause-input
+returns-in-Ok-clause-input g c = rw (← c.in-Ok.ensures, ← c.deref.ensures.value) c.answer_words.ensures.input
+
+pub returns-in-Err-clause-input : goal.returns-in-Err-clause-input
+returns-in-Err-clause-input g c = inl refl
