@@ -18,7 +18,8 @@ returns g c =
     let some = some_logged c.args.opened.session c.run-served.result served.0 logged served.2 in
     let name : new.output.ghost_name ≡ old.output.ghost_name = (deals some.0 some.1).0 in
     let told = serves_session (g.S.Sources.file c.args.sources.now) g.S.Sources.reads _ _ c.args.opened.session c.run-served.result
-    (dealing old) (dealing new) logged c.tell_end.result _ _ _ (λ events is. (deals events is).1) (search (rules, c.requires.fresh)) served
+    (dealing old) (dealing new) logged c.tell_end.result _ _ _ (λ events is. (deals events is).1) (search (rules, c.requires.fresh))
+    (served.0, served.1, served.2, served.3)
     (λ is. (c.run-served.ensures.input is).0) c.run-served.ensures.output (search (rules, name))
     (rw is_unwritten at c.tell_end.ensures.status) (rw is_unwritten at c.tell_end.ensures.line) in
     rw (← c.new-desk.ensures.requests, ← c.new-desk.ensures.output) told
