@@ -305,8 +305,8 @@ fn serve_once<W: Write, E: Write, R: Threads + Wait + Clock + Sync, G: Gate>(
 /// the status does not change. No write to `out` may have failed before. The workers of a statement pass the gate
 /// before each step.
 ///
-/// A session reads requests from `input` after its two files are accepted. Nothing else reads it: for a command, and for
-/// a session that is rejected, `input` stays as it is. The turns in the contract are the requests, with what happened
+/// A session reads requests from `input` after its two files are accepted. For a command, and for a session that is
+/// rejected with status 3 or 4, `input` stays as it is. The turns in the contract are the requests, with what happened
 /// while they were answered. The bytes on `out` are the answers to them, to the end of the input. If a read of the input
 /// fails, the answers so far stay, the status is 6, and the line is `file: input`.
 pub fn serve<S: Sources, I: Read, W: Write, E: Write, R: Threads + Wait + Clock + Sync, G: Gate>(
