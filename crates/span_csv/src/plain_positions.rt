@@ -7,7 +7,7 @@ ghost use Rattle.span_csv.specs.near.Rows.{rows_in, AreLines};
 ghost use Rattle.span_tables.specs.Names.{is_name};
 
 use crate::numbered::is_quantity;
-use span_money::texts::parse_whole;
+use span_money::texts::split_whole;
 use span_tables::name::Name;
 
 // Returns the bytes after a field and its comma, if the bytes begin with them.
@@ -38,12 +38,10 @@ fn split_quantity(bytes: &[u8]) -> Option<(i32, &[u8])>
     ensures { IfSome result (λ p. (text : List ℕ) × (bytes.now ≡ text ++ 10 ∷ p.1.now) × (whole_number text ≡ Some p.0)
         × (is_quantity p.0 ≡ true)) }
 {
-    let end = bytes.iter().position(|byte| *byte == b'\n')?;
-    let quantity = parse_whole(&bytes[..end])?;
-    if !is_quantity(quantity) {
-        return None;
+    match split_whole(bytes)? {
+        (quantity, [b'\n', rest @ ..]) if is_quantity(quantity) => Some((quantity as i32, rest)),
+        _ => None,
     }
-    Some((quantity as i32, &bytes[end + 1..]))
 }
 
 // The contract and the quantity of a position, and the bytes after its line.

@@ -1,14 +1,15 @@
 -- Lemmas about number texts.
 use Rattle.std.proofs.Common.{◌≡◌, ◌≢◌, ℕ, suc, ◌+◌, ◌-◌, ◌*◌, ◌^◌, ◌<◌, ◌==◌, Bool, true, false}
-use Rattle.std.proofs.Common.{cond, List, [], ◌∷◌, length, get_or, ap, ◌∙◌, arith, rules}
+use Rattle.std.proofs.Common.{cond, List, [], ◌∷◌, ◌++◌, length, get_or, ap, refl, ◌∙◌, arith, inl, inr, rules}
 use Rattle.std.specs.Prelude.{ℤ, pos, negsuc, neg_ℤ, nat_abs, fold, Some, None}
 use Rattle.std.specs.Char.{is_ascii_digit}
 use Rattle.std.specs.Fmt.{decimal, signed_decimal}
 use Rattle.std.specs.List.{list_all}
+use Rattle.std.proofs.lemmas.Bool.{cases_Bool}
 use Rattle.std.proofs.lemmas.Bool.Decides.{nat_tests}
 use Rattle.std.proofs.lemmas.Fmt.{decimal_nonempty, digits_decimal, digits_value-decimal, length-decimal-le}
 use Rattle.std.proofs.lemmas.Str.Parse.{IsNumeralModel, numerals_by_fold, not_in_digits}
-use Rattle.span_money.specs.Numbers.{are_digits, digits_value, whole_number, with_sign}
+use Rattle.span_money.specs.Numbers.{are_digits, digits_value, has_minus, whole_number, with_sign, without_minus}
 
 -- the digits of a text and their value agree with the digits that std prints
 
@@ -40,6 +41,17 @@ reads_digits (b ∷ rest) e ne = without_flag (b == 45) b rest (grind (arith, na
 -- digits after a minus are read as the negated number
 reads_minus : (ds : List ℕ) → are_digits 18 ds ≡ true → whole_number (45 ∷ ds) ≡ Some (neg_ℤ (pos (digits_value ds)))
 reads_minus ds e = ap (λ b. cond b (Some (neg_ℤ (pos (digits_value ds)))) None) e
+
+-- a text is split after its minus and its digits, which are read as the number that they spell
+pub splits_whole : (text digits rest : List ℕ) → without_minus text ≡ digits ++ rest → are_digits 18 digits ≡ true
+    → (front : List ℕ) × (text ≡ front ++ rest) × (whole_number front ≡ Some (with_sign (has_minus text) (digits_value digits)))
+splits_whole text [] rest e are = cc
+splits_whole [] (d ∷ ds) rest e are = cc
+splits_whole (b ∷ bs) (d ∷ ds) rest e are =
+    elim (cases_Bool (b == 45)) [
+      | inl is ↦ (b ∷ d ∷ ds, ap (λ t. b ∷ t) (rw is at e), rw (is, are) refl)
+      | inr other ↦ (d ∷ ds, rw other at e, rw other (reads_digits (d ∷ ds) are (grind (arith, nat_tests))))
+    ]
 
 -- the text written for a whole number is read back as that number
 pub read_back : (z : ℤ) → nat_abs z < 10 ^ 18 → whole_number (signed_decimal z) ≡ Some z

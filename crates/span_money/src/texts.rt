@@ -1,6 +1,6 @@
 //! Number texts (docs/FORMATS.md, Names and numbers): reading whole numbers, decimals with at most four decimal places
 //! and months, and writing plain decimals.
-ghost use Rattle.std.specs.Prelude.{◌≡◌, ◌+◌, ◌*◌, ◌-◌, ◌^◌, ◌<◌, ◌≤◌, true, if◌then◌else◌, length};
+ghost use Rattle.std.specs.Prelude.{◌≡◌, ◌+◌, ◌*◌, ◌-◌, ◌^◌, ◌<◌, ◌≤◌, ◌++◌, ℕ, List, true, if◌then◌else◌, length};
 ghost use Rattle.std.specs.Prelude.{drop, Some, None, IfSome, OnSome, option_map, pos, nat_abs};
 ghost use Rattle.std.specs.Char.{is_ascii_digit};
 ghost use Rattle.std.specs.Fmt.{signed_decimal};
@@ -75,6 +75,36 @@ pub fn parse_whole(text: &[u8]) -> Option<i64>
     let (negative, digits) = split_minus(text);
     let n = parse_digits(digits, WHOLE_DIGITS)?;
     Some(with_minus(negative, n))
+}
+
+// Splits a text after the digits that it begins with, at most `WHOLE_DIGITS` of them, and returns the number that they
+// spell and the rest of the text.
+fn split_number(text: &[u8]) -> Option<(u64, &[u8])>
+    ensures parts { IfSome result (λ p. (digits : List ℕ) × (text.now ≡ digits ++ p.1.now) × (are_digits 18 digits ≡ true)
+        × (p.0 ≡ digits_value digits)) }
+    ensures small { IfSome result (λ p. p.0 < 10 ^ 18) }
+{
+    let most = text.len().min(WHOLE_DIGITS);
+    let mut n: u64 = 0;
+    let mut len = 0;
+    while len < most && text[len].is_ascii_digit() {
+        n = n * 10 + u64::from(text[len] - b'0');
+        len += 1;
+    }
+    if len == 0 {
+        return None;
+    }
+    Some((n, &text[len..]))
+}
+
+/// Splits a text after the whole number that it begins with: an optional `-` and 1 to 18 digits. Returns the number and
+/// the rest of the text, or `None` if the text does not begin with a whole number.
+pub fn split_whole(text: &[u8]) -> Option<(i64, &[u8])>
+    ensures { IfSome result (λ p. (front : List ℕ) × (text.now ≡ front ++ p.1.now) × (whole_number front ≡ Some p.0)) }
+{
+    let (negative, digits) = split_minus(text);
+    let (n, rest) = split_number(digits)?;
+    Some((with_minus(negative, n), rest))
 }
 
 // Returns the number of digits that a text begins with.

@@ -1,7 +1,8 @@
 //! Names of parameter sets, commodities, contracts and accounts.
-ghost use Rattle.std.specs.Prelude.{◌≡◌, ◌≤◌, ◌++◌, length, option_map, true, IfSome, Option, Some, None};
+ghost use Rattle.std.specs.Prelude.{◌≡◌, ◌≤◌, ◌++◌, length, option_map, take, true, IfSome, Option, Some, None};
 ghost use Rattle.std.specs.List.{list_all, prefix_len, take_while};
 ghost use Rattle.span_tables.specs.Names.{is_name, is_name_byte, name_of};
+ghost use Rattle.span_tables.specs.near.NamePlaces.{name_places};
 
 use std::cmp::Ordering;
 use std::fmt::Display;
@@ -70,6 +71,26 @@ fn count_name_bytes(text: &[u8]) -> usize
     text.iter().take_while(|byte| is_name_byte(**byte)).count()
 }
 
+// 16 bytes of ones, and 16 bytes of zeros.
+static ONES_AND_ZEROS: [u8; 32] = [
+    255, 255, 255, 255, 255, 255, 255, 255, 255, 255, 255, 255, 255, 255, 255, 255, 0, 0, 0, 0, 0,
+    0, 0, 0, 0, 0, 0, 0, 0, 0, 0, 0,
+];
+
+// Returns the places of the name that is the first `len` bytes of a text. All bytes are done in one step.
+#[inline(always)]
+fn first_places(text: &[u8], len: usize) -> [u8; 16]
+    requires long { 16 ≤ length text.now }
+    requires few { len ≤ 16 }
+    ensures { result ≡ name_places (take len text.now) }
+{
+    let mut places = [0; 16];
+    for place in 0..16 {
+        places[place] = text[place] & ONES_AND_ZEROS[16 - len + place];
+    }
+    places
+}
+
 impl Name {
     /// Returns the name in a text, or `None` if the text is not a name.
     pub fn new(text: &[u8]) -> Option<Name>
@@ -94,17 +115,34 @@ impl Name {
         }
     }
 
+    // Returns the name that is the first `len` bytes of a text.
+    #[inline(always)]
+    fn of_first(text: &[u8], len: usize) -> Name
+        requires inside { len ≤ length text.now }
+        requires few { len ≤ 16 }
+        requires name { is_name (take len text.now) ≡ true }
+        ensures { result ≡ take len text.now }
+    {
+        if text.len() < 16 {
+            return Name::of(&text[..len]);
+        }
+        Name {
+            places: first_places(text, len),
+            len: len as u8,
+        }
+    }
+
     /// Splits a text after its leading name bytes and returns the name and the rest of the text. Returns `None` if the
     /// leading bytes are not a name.
     pub fn split_front(text: &[u8]) -> Option<(Name, &[u8])>
         ensures name { option_map (λ p. p.0) result ≡ name_of (take_while is_name_byte text.now) }
         ensures parts { IfSome result (λ p. p.0 ++ p.1.now ≡ text.now) }
     {
-        let (front, rest) = text.split_at(count_name_bytes(text));
-        if front.is_empty() || front.len() > 16 {
+        let len = count_name_bytes(text);
+        if len == 0 || len > 16 {
             return None;
         }
-        Some((Name::of(front), rest))
+        Some((Name::of_first(text, len), &text[len..]))
     }
 
     /// Returns the bytes of the name.
