@@ -1,11 +1,10 @@
 //! The lines of an order (docs/FORMATS.md, "Evaluated orders").
-ghost use Rattle.std.specs.Prelude.{◌≡◌, ◌++◌, ◌<◌, OnOk, flat_map, length, map, pos};
+ghost use Rattle.std.specs.Prelude.{◌≡◌, ◌++◌, ◌<◌, OnOk, flat_map, length, pos};
 ghost use Rattle.binding.specs.OrderBinding.{TriedOrder};
 ghost use Rattle.inter_credit.specs.OptionValue.{due_of};
 ghost use Rattle.span_money.specs.LineFields.{line};
-ghost use Rattle.span_money.specs.near.Fields.{field_text};
 ghost use Rattle.whatif.specs.Whatif.{change_line, change_of, changed_by, due_at, order_line, order_text};
-ghost use Rattle.whatif.specs.near.Numbers.{change_text, changed_text};
+ghost use Rattle.whatif.specs.near.Numbers.{change_text};
 ghost use Rattle.whatif.specs.near.Trials.{IsTried};
 
 use crate::numbers::Numbers;
@@ -49,21 +48,6 @@ fn change_of(before: Money, after: Money) -> [i128; 3]
     [before, after, after - before]
 }
 
-// Appends the line of a change with these ids, if there is a change.
-fn push_changed(
-    out: &mut Vec<u8>,
-    ids: &[Field<'_>],
-    before: Money,
-    after: Money,
-) -> Result<(), AllocError>
-    ensures { OnOk result (out.new.items ≡ out.old.items ++ changed_text (map field_text ids.now) before after) }
-{
-    if before.get() == after.get() {
-        return Ok(());
-    }
-    push_line_of_numbers(out, "CHANGE", ids, &change_of(before, after))
-}
-
 impl<'a> Trial<'a> {
     /// Creates the evaluation of the order of a name, from the numbers of its account before it and the row after it.
     pub fn new(tables: &'a Tables, order: &'a Name, before: &'a Numbers, row: &'a Row) -> Trial<'a>
@@ -90,14 +74,18 @@ impl<'a> Trial<'a> {
         ensures { (o : TriedOrder) → IsTried self.now o
             → OnOk result (out.new.items ≡ out.old.items ++ change_text self.now.tables o commodity) }
     {
+        let before = self.before.requirements[commodity];
+        let after = self.row.figures(commodity).requirement;
+        if before.get() == after.get() {
+            return Ok(());
+        }
         let ids = [
             Field::Bytes(self.order.as_bytes()),
             Field::Bytes(self.row.account().as_bytes()),
             Field::Bytes(self.tables.set_id().as_bytes()),
             Field::Bytes(self.tables.commodities()[commodity].id.as_bytes()),
         ];
-        let required = self.before.requirements[commodity];
-        push_changed(out, &ids, required, self.row.figures(commodity).requirement)
+        push_line_of_numbers(out, "CHANGE", &ids, &change_of(before, after))
     }
 
     // Appends the line of each commodity whose requirement the order changes.

@@ -35,13 +35,6 @@ no_order = record { order = []; before = record { account = []; holdings = [] };
 abbrev pub order_at : TriedOrders → ℕ → TriedOrder
 order_at tried i = slice_index_or tried.orders i no_order
 
--- the line of a change with these ids, or nothing if there is no change
-abbrev pub changed_text : List (List ℕ) → ℤ → ℤ → List ℕ
-changed_text ids before after =
-    if int_eq before after
-    then []
-    else line (record { word = codes "CHANGE"; fields = ids ++ map signed_decimal (change_of before after) })
-
 -- the line of the commodity of number c, or nothing if the order does not change its requirement
 abbrev pub change_text : AcceptedTables → TriedOrder → ℕ → List ℕ
 change_text t o c = if changes t o c then line (change_line t o c) else []
