@@ -11,8 +11,9 @@ use span_tables::records::NumberedPosition;
 use span_tables::tables::Tables;
 use std::alloc::{AllocError, Global};
 
-/// Returns the ids of the contracts of tables. The index of an id is the number of its contract.
-pub(crate) fn ids_of(alloc: Global, tables: &Tables) -> Result<IndexSet<Name>, AllocError>
+/// Returns the ids of the contracts of tables. The index of an id is the number of its contract. Fails only if memory
+/// runs out.
+pub fn ids_of(alloc: Global, tables: &Tables) -> Result<IndexSet<Name>, AllocError>
     ensures value { IfOk result (λ numbers. numbers.keys ≡ ids_of tables.now.contracts) }
     ensures known { IfOk result (λ numbers. AreNumbers numbers.keys) }
 {

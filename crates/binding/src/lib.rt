@@ -2,7 +2,7 @@
 #![tactic(auto)]
 
 pub mod binder;
-mod contract_ids;
+pub mod contract_ids;
 mod contract_sums;
 pub mod faults;
 pub mod laws;

@@ -3,11 +3,8 @@ pub(crate) mod kept_orders;
 
 ghost use Rattle.std.specs.Prelude.{◌≡◌, ◌<◌, [], IfOk, List, MatchOption, Some, drop, length, map, option_map, slice_get, take};
 ghost use Rattle.binding.specs.OrderBinding.{is_memory, orders_bound};
-ghost use Rattle.binding.specs.near.Holdings.{ids_of};
-ghost use Rattle.binding.specs.near.Ledgers.{AreNumbers};
 ghost use Rattle.binding.specs.near.Orders.{order_fault};
 ghost use Rattle.span_tables.specs.Gives.{Gives};
-ghost use Rattle.span_tables.specs.declared.records.Contract.{Contract};
 
 use crate::contract_ids::ids_of;
 use crate::contract_sums::Sums;
@@ -18,7 +15,6 @@ use crate::orders::kept_orders::{
     some_of,
 };
 use crate::over_limits::{all_faults, first};
-use indexmap::IndexSet;
 use span_tables::name::Name;
 use span_tables::portfolios::{Portfolio, Portfolios};
 use span_tables::raw::RawOrders;
@@ -119,21 +115,21 @@ fn order_fault(fault: BindFault) -> OrderBindFault
     }
 }
 
-// The orders of a file, evaluated on the portfolios of accounts, or their fault. The contracts are given by their ids.
-fn bind_orders_of(
+/// Returns the orders of a file, evaluated on the portfolios of accounts, or the fault of the orders, B1 to B3
+/// (docs/FORMATS.md, "Faults").
+pub fn bind_orders(
     alloc: Global,
-    numbers: &IndexSet<Name>,
-    sums: &mut Sums,
+    tables: &Tables,
     portfolios: Portfolios,
     records: &RawOrders,
 ) -> Result<Orders, OrderBindFault>
-    requires { AreNumbers numbers.now.keys }
-    ensures { (contracts : List Contract) → ids_of contracts ≡ numbers.now.keys
-        → Gives is_memory result (orders_bound contracts portfolios records.now) }
+    ensures { Gives is_memory result (orders_bound tables.now.contracts portfolios records.now) }
 {
+    let numbers = ids_of(alloc, tables)?;
     let contracts = numbers.len() as u32;
+    let mut sums = Sums::new(alloc, contracts)?;
     let positions = records.by_order();
-    let gathered = gather(alloc, numbers, positions)?;
+    let gathered = gather(alloc, &numbers, positions)?;
     let held = portfolios.as_slice();
     let orders = kept_orders(
         alloc,
@@ -142,8 +138,8 @@ fn bind_orders_of(
         records.accounts(),
         gathered.ledgers,
     )?;
-    let excesses = order_excesses(alloc, sums, contracts, held, &orders)?;
-    let faults = all_faults(alloc, numbers, gathered.unknown, &excesses, positions)?;
+    let excesses = order_excesses(alloc, &mut sums, contracts, held, &orders)?;
+    let faults = all_faults(alloc, &numbers, gathered.unknown, &excesses, positions)?;
     match first(faults) {
         Some(fault) => Err(order_fault(fault)),
         None => Ok(Orders {
@@ -152,19 +148,4 @@ fn bind_orders_of(
             orders,
         }),
     }
-}
-
-/// Returns the orders of a file, evaluated on the portfolios of accounts, or the fault of the orders, B1 to B3
-/// (docs/FORMATS.md, "Faults").
-pub fn bind_orders(
-    alloc: Global,
-    tables: &Tables,
-    portfolios: Portfolios,
-    orders: &RawOrders,
-) -> Result<Orders, OrderBindFault>
-    ensures { Gives is_memory result (orders_bound tables.now.contracts portfolios orders.now) }
-{
-    let numbers = ids_of(alloc, tables)?;
-    let mut sums = Sums::new(alloc, numbers.len() as u32)?;
-    bind_orders_of(alloc, &numbers, &mut sums, portfolios, orders)
 }

@@ -1,6 +1,5 @@
 //! The holdings of accounts under another parameter set (docs/SESSIONS.md, A new parameter set).
 ghost use Rattle.binding.specs.Binding.{is_unknown};
-ghost use Rattle.binding.specs.near.Holdings.{ids_of};
 ghost use Rattle.session.specs.Accounts.{contract_of, held_records, under_contracts};
 ghost use Rattle.session.specs.Refusals.{refused_by};
 ghost use Rattle.session.specs.Refusals as refused;
@@ -13,22 +12,12 @@ ghost use Rattle.std.specs.Prelude.{position, true};
 
 use crate::positions::contract_of;
 use crate::refusals::Refusal;
+use binding::contract_ids::ids_of;
 use indexmap::IndexSet;
 use span_tables::name::Name;
 use span_tables::portfolios::{Holding, Portfolio};
 use span_tables::tables::Tables;
 use std::alloc::{AllocError, Global};
-
-// The ids of the contracts of tables. The index of an id is the number of its contract.
-fn ids_of(alloc: Global, tables: &Tables) -> Result<IndexSet<Name>, AllocError>
-    ensures { IfOk result (λ ids. ids.keys ≡ ids_of tables.now.contracts) }
-{
-    let mut ids = IndexSet::new(alloc);
-    for contract in tables.contracts() {
-        ids.insert(contract.id.copied())?;
-    }
-    Ok(ids)
-}
 
 // The index of an id, if it is among the ids.
 fn index_of(ids: &IndexSet<Name>, id: &Name) -> Option<u32>

@@ -9,11 +9,11 @@ use Rattle.binding.specs.declared.orders.kept_orders.KeptOrder.{KeptOrder}
 use Rattle.binding.proofs.IdLaws.{apart_by_ids, contracts_of, contracts_of_are}
 use Rattle.binding.proofs.KeptOrderLaws.{all_have_places}
 use Rattle.binding.proofs.OrderBindLaws.{as_many_accounts, first_given, orders_fit, orders_given, orders_kept}
-use Rattle.binding.proofs.orders.bind_orders_of.Goals as goal
+use Rattle.binding.proofs.orders.bind_orders.Goals as goal
 
 pub kept_orders-requires-clause-accounts : goal.kept_orders-requires-clause-accounts
 kept_orders-requires-clause-accounts c =
-    as_many_accounts (contracts_of c.args.numbers.now.keys) c.args.portfolios c.args.records.now _ _ _
+    as_many_accounts (contracts_of c.in_ok-numbers.numbers.keys) c.args.portfolios c.args.records.now _ _ _
     c.in_ok-gathered.gathered.ledgers.items c.by_order-positions.ensures c.accounts-2.ensures.value c.in_ok-gathered.ensures.ledgers
 
 pub order_excesses-requires : goal.order_excesses-requires
@@ -26,15 +26,17 @@ order_excesses-requires c =
     (all_have_places held names accounts c.in_ok-gathered.gathered.ledgers.items)
 
 pub returns-in-Some : goal.returns-in-Some
-returns-in-Some c = λ contracts is.
-    let ids = c.args.numbers.now.keys in
+returns-in-Some c =
+    let contracts = c.args.tables.now.contracts in
+    let is = sym c.in_ok-numbers.ensures.value in
+    let ids = c.in_ok-numbers.numbers.keys in
     let portfolios = c.args.portfolios in
     let records = c.args.records.now in
     let kept = orders_kept contracts portfolios records _ _ _ _ _ _ _ (sym is) c.by_order-positions.ensures
     c.as_slice-held.ensures c.accounts.ensures.value c.accounts-2.ensures.value c.in_ok-gathered.ensures.ledgers c.in_ok-orders.ensures in
     subst (λ (e : OrderBindFault). MatchBool (is_memory e) ⊤ (orders_bound contracts portfolios records ≡ Err e))
     (sym c.order_fault.ensures)
-    (first_given contracts portfolios records _ _ _ _ _ _ _ _ _ (apart_by_ids contracts ids is c.requires.apart)
+    (first_given contracts portfolios records _ _ _ _ _ _ _ _ _ (apart_by_ids contracts ids is c.in_ok-numbers.ensures.known.apart)
     c.accounts-2.ensures.one (sym is) c.len-contracts.ensures.len c.by_order-positions.ensures c.as_slice-held.ensures kept
     c.deref.ensures.value c.in_ok-gathered.ensures.unknown c.in_ok-excesses.ensures.excesses (c.in_ok-faults.ensures
     ∙ ap (λ xs. found_faults ids c.in_ok-gathered.gathered.unknown.items xs c.by_order-positions.result.now)
@@ -42,27 +44,29 @@ returns-in-Some c = λ contracts is.
 
 pub invariant_of-result : goal.invariant_of-result
 invariant_of-result c =
-    let ids = c.args.numbers.now.keys in
+    let ids = c.in_ok-numbers.numbers.keys in
     let portfolios = c.args.portfolios in
     let records = c.args.records.now in
     let contracts = contracts_of ids in
     let is = contracts_of_are ids in
     let kept = orders_kept contracts portfolios records _ _ _ _ _ _ _ (sym is) c.by_order-positions.ensures
     c.as_slice-held.ensures c.accounts.ensures.value c.accounts-2.ensures.value c.in_ok-gathered.ensures.ledgers c.in_ok-orders.ensures in
-    orders_fit contracts portfolios records _ _ _ _ _ _ _ _ _ (apart_by_ids contracts ids is c.requires.apart)
+    orders_fit contracts portfolios records _ _ _ _ _ _ _ _ _ (apart_by_ids contracts ids is c.in_ok-numbers.ensures.known.apart)
     c.accounts-2.ensures.one (sym is) c.len-contracts.ensures.len c.by_order-positions.ensures c.as_slice-held.ensures kept
     c.deref.ensures.value c.in_ok-gathered.ensures.unknown c.in_ok-excesses.ensures.excesses (c.in_ok-faults.ensures
     ∙ ap (λ xs. found_faults ids c.in_ok-gathered.gathered.unknown.items xs c.by_order-positions.result.now)
     c.deref-2.ensures.value) c.in-None.ensures c.in_ok-excesses.ensures.before
 
 pub returns-in-None : goal.returns-in-None
-returns-in-None c = λ contracts is.
-    let ids = c.args.numbers.now.keys in
+returns-in-None c =
+    let contracts = c.args.tables.now.contracts in
+    let is = sym c.in_ok-numbers.ensures.value in
+    let ids = c.in_ok-numbers.numbers.keys in
     let portfolios = c.args.portfolios in
     let records = c.args.records.now in
     let kept = orders_kept contracts portfolios records _ _ _ _ _ _ _ (sym is) c.by_order-positions.ensures
     c.as_slice-held.ensures c.accounts.ensures.value c.accounts-2.ensures.value c.in_ok-gathered.ensures.ledgers c.in_ok-orders.ensures in
-    orders_given contracts portfolios records _ _ _ _ _ _ _ _ _ (apart_by_ids contracts ids is c.requires.apart)
+    orders_given contracts portfolios records _ _ _ _ _ _ _ _ _ (apart_by_ids contracts ids is c.in_ok-numbers.ensures.known.apart)
     c.accounts-2.ensures.one (sym is) c.len-contracts.ensures.len c.by_order-positions.ensures c.as_slice-held.ensures kept
     c.deref.ensures.value c.in_ok-gathered.ensures.unknown c.in_ok-excesses.ensures.excesses (c.in_ok-faults.ensures
     ∙ ap (λ xs. found_faults ids c.in_ok-gathered.gathered.unknown.items xs c.by_order-positions.result.now)
