@@ -1,9 +1,10 @@
 -- If the names in the tables are plain, the fields of an account's lines contain no comma and no line feed.
-use Rattle.std.proofs.Common.{◌≡◌, ℕ, zero, suc, ◌+◌, ◌<◌, Bool, true, false, cond, List, [], ◌∷◌, ◌++◌, length, flat_map, map, refl, arith}
+use Rattle.std.proofs.Common.{◌≡◌, ℕ, Bool, true, false, cond, ◌&&◌, List, [], ◌∷◌, ◌++◌, filter, flat_map, length, map, refl, inl, inr}
 use Rattle.std.specs.Prelude.{ℤ, codes, nat_le}
 use Rattle.std.specs.Fmt.{signed_decimal}
 use Rattle.std.specs.List.{AllByRecursion, list_all, range_with_len}
-use Rattle.std.proofs.lemmas.Bool.{and_parts, leb-true}
+use Rattle.std.proofs.lemmas.Bool.{and_parts, cases_lt, leb-true}
+use Rattle.std.proofs.lemmas.List.{get_or_past}
 use Rattle.span_money.specs.LineFields.{Line}
 use Rattle.span_tables.specs.Net.{AccountHoldings, HeldContract}
 use Rattle.span_tables.specs.Tables.{AcceptedTables, commodity_id, facts_in}
@@ -24,32 +25,35 @@ use Rattle.reasons.specs.Reasons.{intras_shown_at, kind_letter, long_side, metho
 use Rattle.reasons.specs.Reasons.{reasons_of, scan_reasons, short_reason, spot_reason, spots_shown_at, state_after_all}
 use Rattle.statement_text.specs.Statement.{figures_line, total_line, total_numbers, total_of}
 use Rattle.explanation.specs.Explanation.{account_lines, commodity_lines, reason_line}
-use Rattle.explanation.proofs.AcceptedLemmas.{AreNamed, held_above}
-use Rattle.explanation.proofs.ReadLemmas.{IsAbove, IsPlain, decimal_above, exact_above, signed_above}
+use Rattle.explanation.specs.Laws.{is_of_statement}
+use Rattle.explanation.proofs.AcceptedLemmas.{AreNamed, filtered, held_between}
+use Rattle.explanation.proofs.ReadLemmas.{IsBetween, IsPlain, decimal_between, exact_between, signed_between}
 
 -- ---- words
 
-above_by_test : (text : List ℕ) → list_all (λ b. nat_le 45 b) text ≡ true → IsAbove text
-above_by_test [] e = tt
-above_by_test (b ∷ bs) e =
-    let parts = and_parts (nat_le 45 b) (list_all (λ x. nat_le 45 x) bs) e in (leb-true 45 b parts.0, above_by_test bs parts.1)
+pub between_by_test : (text : List ℕ) → list_all (λ b. nat_le 45 b && nat_le b 95) text ≡ true → IsBetween text
+between_by_test [] e = tt
+between_by_test (b ∷ bs) e =
+    let parts = and_parts (nat_le 45 b && nat_le b 95) (list_all (λ x. nat_le 45 x && nat_le x 95) bs) e in
+    let here = and_parts (nat_le 45 b) (nat_le b 95) parts.0 in
+    ((leb-true 45 b here.0, leb-true b 95 here.1), between_by_test bs parts.1)
 
-kind_above : (kind : ProductKind) → IsAbove (kind_letter kind)
-kind_above product.Future = above_by_test (codes "F") refl
-kind_above product.Call = above_by_test (codes "C") refl
-kind_above product.Put = above_by_test (codes "P") refl
+kind_between : (kind : ProductKind) → IsBetween (kind_letter kind)
+kind_between product.Future = between_by_test (codes "F") refl
+kind_between product.Call = between_by_test (codes "C") refl
+kind_between product.Put = between_by_test (codes "P") refl
 
-side_above : (d : Direction) → IsAbove (long_side d)
-side_above ALong = above_by_test (codes "A") refl
-side_above AShort = above_by_test (codes "B") refl
+side_between : (d : Direction) → IsBetween (long_side d)
+side_between ALong = between_by_test (codes "A") refl
+side_between AShort = between_by_test (codes "B") refl
 
-method_above : (m : MinimumMethod) → IsAbove (method_word m)
-method_above method.Sum = above_by_test (codes "SUM") refl
-method_above method.Max = above_by_test (codes "MAX") refl
+method_between : (m : MinimumMethod) → IsBetween (method_word m)
+method_between method.Sum = between_by_test (codes "SUM") refl
+method_between method.Max = between_by_test (codes "MAX") refl
 
-numbers_above : (zs : List ℤ) → AllByRecursion IsAbove (map signed_decimal zs)
-numbers_above [] = tt
-numbers_above (z ∷ zs) = (signed_above z, numbers_above zs)
+pub numbers_between : (zs : List ℤ) → AllByRecursion IsBetween (map signed_decimal zs)
+numbers_between [] = tt
+numbers_between (z ∷ zs) = (signed_between z, numbers_between zs)
 
 -- ---- lines
 
@@ -62,31 +66,31 @@ plain_lines f each [] = tt
 plain_lines f each (x ∷ xs) = (each x, plain_lines f each xs)
 
 -- a plain line with plain ids inserted is plain
-plain_ids : (account set_id commodity : List ℕ) (l : Line) → IsAbove account → IsAbove set_id → IsAbove commodity → IsPlain l
+plain_ids : (account set_id commodity : List ℕ) (l : Line) → IsBetween account → IsBetween set_id → IsBetween commodity → IsPlain l
     → IsPlain (reason_line account set_id commodity l)
 plain_ids account set_id commodity l a s c plain =
     record { word = plain.word; fields = (a, (s, (c, plain.fields))) }
 
-ids_before : (account set_id commodity : List ℕ) (ls : List Line) → IsAbove account → IsAbove set_id → IsAbove commodity
+ids_before : (account set_id commodity : List ℕ) (ls : List Line) → IsBetween account → IsBetween set_id → IsBetween commodity
     → AllByRecursion IsPlain ls → AllByRecursion IsPlain (map (reason_line account set_id commodity) ls)
 ids_before account set_id commodity [] a s c plain = tt
 ids_before account set_id commodity (l ∷ ls) a s c plain =
     (plain_ids account set_id commodity l a s c plain.0, ids_before account set_id commodity ls a s c plain.1)
 
-held_plain : (t : AcceptedTables) (hs : List HeldContract) → AllByRecursion (λ h. IsAbove (h.contract).id) hs
+held_plain : (t : AcceptedTables) (hs : List HeldContract) → AllByRecursion (λ h. IsBetween (h.contract).id) hs
     → AllByRecursion IsPlain (map (held_reason t) hs)
 held_plain t [] all = tt
 held_plain t (h ∷ hs) all = (
   record {
-    word = above_by_test (codes "HELD") refl;
+    word = between_by_test (codes "HELD") refl;
     fields = (
       all.0,
       (
-        kind_above (h.contract).kind,
+        kind_between (h.contract).kind,
         (
-          decimal_above (h.contract).month,
+          decimal_between (h.contract).month,
           (
-            signed_above h.net,
+            signed_between h.net,
             by (facts_in t).options_have_value,
           ),
         ),
@@ -95,20 +99,20 @@ held_plain t (h ∷ hs) all = (
   },
   held_plain t hs all.1,
 ) where
-  by : (b : Bool) → AllByRecursion IsAbove (cond b (signed_decimal (position_value h) ∷ []) [])
-  by true = (signed_above (position_value h), tt)
+  by : (b : Bool) → AllByRecursion IsBetween (cond b (signed_decimal (position_value h) ∷ []) [])
+  by true = (signed_between (position_value h), tt)
   by false = tt
 
 module _ (t : AcceptedTables) (named : AreNamed t) (holdings : List Holding) (c : ℕ) where
   scan_plain : AllByRecursion IsPlain (scan_reasons t holdings c)
   scan_plain = (
-    record { word = above_by_test (codes "SUMS") refl; fields = numbers_above (scenario_sums (held_at t holdings c)) },
+    record { word = between_by_test (codes "SUMS") refl; fields = numbers_between (scenario_sums (held_at t holdings c)) },
     (
       record {
-        word = above_by_test (codes "SCAN") refl;
+        word = between_by_test (codes "SCAN") refl;
         fields = (
-          signed_above (scan_of (scenario_sums (held_at t holdings c))).risk,
-          (decimal_above _, (decimal_above _, (exact_above 1 _, tt))),
+          signed_between (scan_of (scenario_sums (held_at t holdings c))).risk,
+          (decimal_between _, (decimal_between _, (exact_between 1 _, tt))),
         );
       },
       tt,
@@ -120,29 +124,29 @@ module _ (t : AcceptedTables) (named : AreNamed t) (holdings : List Holding) (c 
       plain-append (map month_reason (months_shown_at t holdings c))
       (map intra_reason (intras_shown_at t holdings c) ++ map spot_reason (spots_shown_at t holdings c))
       (plain_lines month_reason (λ m. record {
-        word = above_by_test (codes "MONTH") refl;
-        fields = (decimal_above _, (exact_above 8 _, (exact_above 8 _, tt)));
+        word = between_by_test (codes "MONTH") refl;
+        fields = (decimal_between _, (exact_between 8 _, (exact_between 8 _, tt)));
       }) (months_shown_at t holdings c))
       (plain-append (map intra_reason (intras_shown_at t holdings c)) (map spot_reason (spots_shown_at t holdings c))
       (plain_lines intra_reason (λ s. record {
-        word = above_by_test (codes "INTRA") refl;
-        fields = (decimal_above _, (side_above s.direction, (exact_above 4 _, (decimal_above _, (exact_above 4 _, tt)))));
+        word = between_by_test (codes "INTRA") refl;
+        fields = (decimal_between _, (side_between s.direction, (exact_between 4 _, (decimal_between _, (exact_between 4 _, tt)))));
       }) (intras_shown_at t holdings c))
       (plain_lines spot_reason (λ s. record {
-        word = above_by_test (codes "SPOT") refl;
-        fields = (decimal_above _, (exact_above 8 _, (decimal_above _, (exact_above 8 _, (decimal_above _, (exact_above 8 _, tt))))));
+        word = between_by_test (codes "SPOT") refl;
+        fields = (decimal_between _, (exact_between 8 _, (decimal_between _, (exact_between 8 _, (decimal_between _, (exact_between 8 _, tt))))));
       }) (spots_shown_at t holdings c)))
 
   credit_plain : AllByRecursion IsPlain (credit_reasons t holdings c)
   credit_plain =
       plain-append (map inter_reason (inters_shown_at t holdings c)) (credit_reason (state_after_all t holdings c) ∷ [])
       (plain_lines inter_reason (λ s. record {
-        word = above_by_test (codes "INTER") refl;
-        fields = (decimal_above _, (side_above s.direction, (exact_above 4 _, (exact_above 8 _, (decimal_above _, tt)))));
+        word = between_by_test (codes "INTER") refl;
+        fields = (decimal_between _, (side_between s.direction, (exact_between 4 _, (exact_between 8 _, (decimal_between _, tt)))));
       }) (inters_shown_at t holdings c)) (
         record {
-          word = above_by_test (codes "CREDIT") refl;
-          fields = (exact_above 1 _, (exact_above 8 _, (exact_above 8 _, tt)));
+          word = between_by_test (codes "CREDIT") refl;
+          fields = (exact_between 1 _, (exact_between 8 _, (exact_between 8 _, tt)));
         },
         tt,
       )
@@ -150,8 +154,8 @@ module _ (t : AcceptedTables) (named : AreNamed t) (holdings : List Holding) (c 
   short_plain : AllByRecursion IsPlain (short_reason (commodity_at t c) (held_at t holdings c) ∷ [])
   short_plain = (
     record {
-      word = above_by_test (codes "SHORT") refl;
-      fields = (decimal_above _, (decimal_above _, (method_above (commodity_at t c).method, (decimal_above _, tt))));
+      word = between_by_test (codes "SHORT") refl;
+      fields = (decimal_between _, (decimal_between _, (method_between (commodity_at t c).method, (decimal_between _, tt))));
     },
     tt,
   )
@@ -164,31 +168,39 @@ module _ (t : AcceptedTables) (named : AreNamed t) (holdings : List Holding) (c 
       let months = month_reasons t holdings c in
       let scan = scan_reasons t holdings c in
       plain-append (held_reasons t holdings c) (scan ++ (months ++ (credit ++ short)))
-      (held_plain t (held_at t holdings c) (held_above t.contracts holdings (commodity_id t c) named.contracts))
+      (held_plain t (held_at t holdings c) (held_between t.contracts holdings (commodity_id t c) named.contracts))
       (plain-append scan (months ++ (credit ++ short)) scan_plain
       (plain-append months (credit ++ short) months_plain (plain-append credit short credit_plain short_plain)))
 
 -- ---- an account
 
-figures_plain : (account set_id commodity : List ℕ) (f : Figures) → IsAbove account → IsAbove set_id → IsAbove commodity
+figures_plain : (account set_id commodity : List ℕ) (f : Figures) → IsBetween account → IsBetween set_id → IsBetween commodity
     → IsPlain (figures_line account set_id commodity f)
 unfolding figures_line
 figures_plain account set_id commodity f a s c =
-    record { word = above_by_test (codes "R") refl; fields = (a, (s, (c, numbers_above (numbers_of f)))) }
+    record { word = between_by_test (codes "R") refl; fields = (a, (s, (c, numbers_between (numbers_of f)))) }
 
-total_plain : (account set_id : List ℕ) (numbers : List ℤ) → IsAbove account → IsAbove set_id → IsPlain (total_line account set_id numbers)
+pub total_plain : (account set_id : List ℕ) (numbers : List ℤ) → IsBetween account → IsBetween set_id → IsPlain (total_line account set_id numbers)
 unfolding total_line
-total_plain account set_id numbers a s = record { word = above_by_test (codes "T") refl; fields = (a, (s, numbers_above numbers)) }
+total_plain account set_id numbers a s = record { word = between_by_test (codes "T") refl; fields = (a, (s, numbers_between numbers)) }
 
 where_held : (b : Bool) (ls : List Line) → AllByRecursion IsPlain ls → AllByRecursion IsPlain (cond b ls [])
 where_held true ls all = all
 where_held false ls all = tt
 
-module _ (t : AcceptedTables) (named : AreNamed t) (p : AccountHoldings) (account : IsAbove p.account) where
-  commodity_plain : (c : ℕ) → c < length t.commodities → AllByRecursion IsPlain (commodity_lines t p c)
-  commodity_plain c lt =
+-- the name of a commodity, or no name past the last
+pub commodity_between : (t : AcceptedTables) → AreNamed t → (c : ℕ) → IsBetween (commodity_at t c).id
+commodity_between t named c =
+    elim (cases_lt c (length t.commodities)) [
+      | inl lt ↦ named.commodities c no_commodity lt
+      | inr le ↦ rw (get_or_past t.commodities c no_commodity le) tt
+    ]
+
+module _ (t : AcceptedTables) (named : AreNamed t) (p : AccountHoldings) (account : IsBetween p.account) where
+  commodity_plain : (c : ℕ) → AllByRecursion IsPlain (commodity_lines t p c)
+  commodity_plain c =
       let id = (commodity_at t c).id in
-      let commodity : IsAbove id = named.commodities c no_commodity lt in
+      let commodity = commodity_between t named c in
       let front = map (reason_line p.account t.set_id id) (reasons_of t p.holdings c) in
       let last = figures_line p.account t.set_id id (figures_of t p.holdings c) in
       where_held (is_commodity_held t p.holdings c) (front ++ last ∷ [])
@@ -196,24 +208,27 @@ module _ (t : AcceptedTables) (named : AreNamed t) (p : AccountHoldings) (accoun
       (ids_before p.account t.set_id id (reasons_of t p.holdings c) account named.set_id commodity (reasons_plain t named p.holdings c))
       (figures_plain p.account t.set_id id (figures_of t p.holdings c) account named.set_id commodity, tt))
 
-  commodities_plain : (from n : ℕ) → length t.commodities ≡ from + n
-      → AllByRecursion IsPlain (flat_map (commodity_lines t p) (range_with_len from n))
-  commodities_plain from zero all = tt
-  commodities_plain from (suc n) all =
-      plain-append (commodity_lines t p from) (flat_map (commodity_lines t p) (range_with_len (from + 1) n))
-      (commodity_plain from (omega (arith, all))) (commodities_plain (from + 1) n (omega (arith, all)))
+  commodities_plain : (cs : List ℕ) → AllByRecursion IsPlain (flat_map (commodity_lines t p) cs)
+  commodities_plain [] = tt
+  commodities_plain (c ∷ cs) =
+      plain-append (commodity_lines t p c) (flat_map (commodity_lines t p) cs) (commodity_plain c) (commodities_plain cs)
 
   -- the lines of an account are plain
   pub account_plain : AllByRecursion IsPlain (account_lines t p)
   account_plain =
       plain-append (flat_map (commodity_lines t p) (range_with_len 0 (length t.commodities)))
       (total_line p.account t.set_id (total_numbers t (total_of t p) (option_value_of t p.holdings)) ∷ [])
-      (commodities_plain 0 (length t.commodities) (omega arith))
+      (commodities_plain (range_with_len 0 (length t.commodities)))
       (total_plain p.account t.set_id (total_numbers t (total_of t p) (option_value_of t p.holdings)) account named.set_id, tt)
+
+-- the lines of an account in the statement are plain
+pub row_plain : (t : AcceptedTables) → AreNamed t → (p : AccountHoldings) → IsBetween p.account
+    → AllByRecursion IsPlain (filter is_of_statement (account_lines t p))
+row_plain t named p account = filtered IsPlain is_of_statement (account_lines t p) (account_plain t named p account)
 
 -- the lines of all accounts are plain
 pub accounts_plain : (t : AcceptedTables) → AreNamed t → (portfolios : List AccountHoldings)
-    → AllByRecursion (λ p. IsAbove p.account) portfolios → AllByRecursion IsPlain (flat_map (account_lines t) portfolios)
+    → AllByRecursion (λ p. IsBetween p.account) portfolios → AllByRecursion IsPlain (flat_map (account_lines t) portfolios)
 accounts_plain t named [] all = tt
 accounts_plain t named (p ∷ portfolios) all =
     plain-append (account_lines t p) (flat_map (account_lines t) portfolios) (account_plain t named p all.0)

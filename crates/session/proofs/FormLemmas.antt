@@ -1,6 +1,6 @@
 -- The fields of a request without a fault.
 use Rattle.std.proofs.Common.{◌≡◌, ◌≢◌, ◌∙◌, ◌+◌, ◌*◌, ◌<◌, ◌≤◌, ℕ, zero, suc, Bool, true, false, not, List, [], ◌∷◌, length, drop, get_or}
-use Rattle.std.proofs.Common.{Option, Some, None, inl, inr, refl, sym, arith, pos}
+use Rattle.std.proofs.Common.{Option, Some, None, inl, inr, refl, sym, ap, arith, pos}
 use Rattle.std.proofs.lemmas.Bool.{cases_Bool}
 use Rattle.std.proofs.lemmas.List.{get_or-drop, length-drop}
 use Rattle.std.proofs.lemmas.Grind.{common_steps}
@@ -116,13 +116,16 @@ trades_behind_names w fields free =
     (none_behind (is_bad_name w) (names_of w) fields names)
     (none_behind (is_out_of_range w) (names_of w) fields ranges)
 
--- the first field after the word of a request without a fault is a name, if it is not a quantity
-pub first_named : (w : Word) (first account : List ℕ) (rest : List (List ℕ)) → form_fault w (first ∷ account ∷ rest) ≡ None
-    → is_quantity_field (names_of w) 2 ≡ false → is_name account ≡ true
-first_named w first account rest free number =
-    let names = no_first (field_where (is_bad_name w) (first ∷ account ∷ rest)) fault.BadName _ free in
-    let good = (first_fails (is_bad_name w) 2 account rest (none_found (λ f. f.0) _ names)).0 in
-    not-true (is_name account) (rw number at good)
+-- the fields between the word and the pairs of a request without a fault are names
+pub named_behind : (w : Word) (fields : List (List ℕ)) → form_fault w fields ≡ None → (k : ℕ) → k < names_of w → k + 1 < length fields
+    → is_name (text_at fields (k + 1)) ≡ true
+named_behind w fields free k few inside =
+    let names = none_found (λ f. f.0) _ (no_first (field_where (is_bad_name w) fields) fault.BadName _ free) in
+    let within : k < length (drop 1 fields) = omega (arith, length-drop 1 fields, inside) in
+    let number : is_quantity_field (names_of w) (2 + k) ≡ false = grind (arith, common_steps, few) in
+    let place : 1 + k ≡ k + 1 = omega arith in
+    let same : get_or (drop 1 fields) k [] ≡ text_at fields (k + 1) = get_or-drop 1 fields k [] ∙ ap (text_at fields) place in
+    not-true (is_name (text_at fields (k + 1))) (rw (number, same) at (none_from (is_bad_name w) 2 (drop 1 fields) names k within))
 
 -- a line whose word is not SET is read by its fields
 pub by_fields : (w : Word) (line : List ℕ) → w ≢ word.Set → request_with (Some w) line ≡ request_by w (fields_of line)

@@ -35,21 +35,16 @@ use Rattle.session.specs.declared.requests.Word.{Word}
 use Rattle.session.specs.declared.requests.Word.TheVariants as word
 use Rattle.session.specs.Refusals.{Refused}
 use Rattle.session.specs.Refusals as refused
-use Rattle.session.proofs.FormLemmas.{first_named, trades_behind_names}
+use Rattle.session.proofs.FormLemmas.{named_behind, trades_behind_names}
 use Rattle.session.proofs.TradeLemmas.{enough, tradable}
 
--- ---- a FILL has trades
+-- ---- the names of a TRY or FILL, and the trades of a FILL
 
--- if the request is a FILL, its account is a name, and it has trades
-HasTrades : Asked → Type 0
+-- if the request is a TRY or FILL, its order and its account are names; if it is a FILL, it has trades
+unfoldable pub HasTrades : Asked → Type 0
+HasTrades (asked.Try order account trades) = (is_name order ≡ true) × (is_name account ≡ true)
 HasTrades (asked.Fill account trades) = (is_name account ≡ true) × (0 < length trades)
 HasTrades _ = ⊤
-
--- the account of a FILL without a fault is a name
-fill_named : (fields : List (List ℕ)) → form_fault word.Fill fields ≡ None → 1 < length fields → is_name (text_at fields 1) ≡ true
-fill_named [] free some = absurd (omega (arith, some))
-fill_named (w ∷ []) free some = absurd (omega (arith, some))
-fill_named (w ∷ account ∷ rest) free some = first_named word.Fill w account rest free refl
 
 asked_has : (w : Word) (fields : List (List ℕ)) → may_have w (length fields) ≡ true → form_fault w fields ≡ None
     → HasTrades (asked_for w fields)
@@ -60,11 +55,15 @@ asked_has word.Margin fields may free = by (length fields == 1)
     by true = tt
     by false = tt
 asked_has word.Explain fields may free = tt
-asked_has word.Try fields may free = tt
+asked_has word.Try fields may free =
+    let few = enough 2 (length fields) may in (
+      named_behind word.Try fields free 0 (omega arith) (omega (arith, few)),
+      named_behind word.Try fields free 1 (omega arith) (omega (arith, few)),
+    )
 asked_has word.Fill fields may free =
     let few = enough 1 (length fields) may in
     let size = length-drop 2 fields in (
-      fill_named fields free (omega (arith, few)),
+      named_behind word.Fill fields free 0 (omega arith) (omega (arith, few)),
       (tradable (drop 2 fields) (trades_behind_names word.Fill fields free) (omega (arith, few, size))).some,
     )
 asked_has word.Set fields may free = tt
@@ -95,7 +94,7 @@ with_has (Some word.Set) line = by (length (fields_of line) == 1) (is_file_name 
     by false false = tt
 with_has (Some word.Positions) line = by_has word.Positions (fields_of line)
 
-request_has : (request : Option (List ℕ)) → IfOk (request_on request) HasTrades
+pub request_has : (request : Option (List ℕ)) → IfOk (request_on request) HasTrades
 unfolding request_of
 request_has None = tt
 request_has (Some line) = by (nat_lt MAX_LINE (length line))

@@ -9,6 +9,7 @@ mod FieldLemmas
 mod FormLemmas
 mod KeepLemmas
 mod KeptStateLemmas
+mod LowerCaseLemmas
 mod ReadAgainLemmas
 mod ReadStateLemmas
 mod SessionLemmas

@@ -2,9 +2,9 @@
 ghost use Rattle.binding.specs.declared.faults.BindFault.{BindFault};
 ghost use Rattle.binding.specs.declared.trades.Trade.{Trade};
 ghost use Rattle.session.specs.Accounts.{position_records};
-ghost use Rattle.session.specs.Answers.{State, answer_to, has_no_place, opened, tried, unchanged, unfit, with_portfolio};
-ghost use Rattle.session.specs.Conversations.{Turn, answer_of, answers_from, booked_in, has_new_set, may_change};
-ghost use Rattle.session.specs.Conversations.{numbered_from, outcomes, request_on};
+ghost use Rattle.session.specs.Answers.{Answered, State, answer_to, has_no_place, opened, tried, unchanged, unfit, with_portfolio};
+ghost use Rattle.session.specs.Conversations.{Turn, answer_of, answers_from, booked_in, done_line, has_new_set, may_change};
+ghost use Rattle.session.specs.Conversations.{numbered_from, opening_text, outcomes, request_on};
 ghost use Rattle.session.specs.Conversations.{state_after, state_behind};
 ghost use Rattle.session.specs.Refusals.{Refused};
 ghost use Rattle.session.specs.Requests.{Fill, Margin, Positions, Try};
@@ -14,9 +14,10 @@ ghost use Rattle.span_money.specs.LineFields.{line};
 ghost use Rattle.span_tables.specs.Tables.{AcceptedTables, facts_in};
 ghost use Rattle.span_tables.specs.declared.records.PositionRecord.{PositionRecord};
 ghost use Rattle.statement_text.specs.Statement.{accepted_of, portfolios_under, statement_of};
+ghost use Rattle.std.specs.Char.{is_ascii_lowercase};
 ghost use Rattle.std.specs.Fmt.{signed_decimal};
 ghost use Rattle.whatif.specs.Whatif.{change_of};
-ghost use Rattle.std.specs.Prelude.{◌≡◌, ◌⊎◌, ◌+◌, ◌<◌, ◌++◌, [], ◌∷◌, Err, List, None, Ok, codes, false, if◌then◌else◌, length, map, ℕ, ℤ};
+ghost use Rattle.std.specs.Prelude.{◌≡◌, ◌⊎◌, ◌+◌, ◌<◌, ◌++◌, [], ◌∷◌, All, Err, List, None, Ok, codes, false, if◌then◌else◌, length, map, ℕ, ℤ};
 
 /// If more requests follow, the answers to the first ones are the same.
 pub fn answers_are_the_first_of_more()
@@ -33,6 +34,15 @@ pub fn a_refused_request_changes_nothing()
 /// MARGIN, EXPLAIN, TRY and POSITIONS leave the state as it is.
 pub fn only_a_fill_or_a_set_changes_the_state()
     ensures { (s : State) (turn : Turn) → may_change (request_on turn.request) ≡ false → state_after s (answer_of s turn) ≡ s }
+{}
+
+/// No line of an answer but the last begins with a lower-case letter: the lines before the last have no such letter.
+pub fn only_the_last_line_begins_in_lower_case()
+    ensures opening { (params positions : List ℕ) (s : State) → opened params positions ≡ Ok s
+        → (lines : List ℕ) × (opening_text s ≡ lines ++ line (done_line 0)) × All (λ b. is_ascii_lowercase b ≡ false) lines }
+    ensures answers { (params positions : List ℕ) (s : State) (turns : List Turn) (turn : Turn) (a : Answered)
+        → opened params positions ≡ Ok s → answer_of (state_behind s turns) turn ≡ Ok a
+        → All (λ b. is_ascii_lowercase b ≡ false) a.lines }
 {}
 
 /// A request that changes nothing may be left out: the other answers are the same, except for their numbers.
