@@ -196,8 +196,8 @@ accounts_named t positions records portfolios q b =
 
 -- ---- held contracts
 
-pub found_between : (contracts : List Contract) (i : ℕ) (x : Contract) → slice_get contracts i ≡ Some x → All (λ y. IsBetween y.id) contracts
-    → IsBetween x.id
+pub found_between : (contracts : List Contract) (i : ℕ) (x : Contract) → slice_get contracts i ≡ Some x
+    → All (λ y. IsBetween y.id) contracts → IsBetween x.id
 found_between [] i x is all = cc
 found_between (y ∷ ys) zero x is all =
     let same_one : y ≡ x = cc in subst (λ (z : Contract). IsBetween z.id) same_one (All-head (λ (z : Contract). IsBetween z.id) y ys all)

@@ -134,7 +134,10 @@ module _ (t : AcceptedTables) (named : AreNamed t) (holdings : List Holding) (c 
       }) (intras_shown_at t holdings c))
       (plain_lines spot_reason (λ s. record {
         word = between_by_test (codes "SPOT") refl;
-        fields = (decimal_between _, (exact_between 8 _, (decimal_between _, (exact_between 8 _, (decimal_between _, (exact_between 8 _, tt))))));
+        fields = (
+          decimal_between _,
+          (exact_between 8 _, (decimal_between _, (exact_between 8 _, (decimal_between _, (exact_between 8 _, tt))))),
+        );
       }) (spots_shown_at t holdings c)))
 
   credit_plain : AllByRecursion IsPlain (credit_reasons t holdings c)
@@ -180,7 +183,8 @@ unfolding figures_line
 figures_plain account set_id commodity f a s c =
     record { word = between_by_test (codes "R") refl; fields = (a, (s, (c, numbers_between (numbers_of f)))) }
 
-pub total_plain : (account set_id : List ℕ) (numbers : List ℤ) → IsBetween account → IsBetween set_id → IsPlain (total_line account set_id numbers)
+pub total_plain : (account set_id : List ℕ) (numbers : List ℤ) → IsBetween account → IsBetween set_id
+    → IsPlain (total_line account set_id numbers)
 unfolding total_line
 total_plain account set_id numbers a s = record { word = between_by_test (codes "T") refl; fields = (a, (s, numbers_between numbers)) }
 

@@ -69,7 +69,8 @@ no_feed l plain = All-from_recursion (λ b. (b == 10) ≡ false) (bytes_of l) (b
       both [] ys h k = k
       both (x ∷ xs) ys h k = (h.0, both xs ys h.1 k)
 
-      of_fields : (fields : List (List ℕ)) → AllByRecursion IsBetween fields → AllByRecursion (λ b. (b == 10) ≡ false) (flat_map field fields)
+      of_fields : (fields : List (List ℕ)) → AllByRecursion IsBetween fields
+          → AllByRecursion (λ b. (b == 10) ≡ false) (flat_map field fields)
       of_fields [] h = tt
       of_fields (f ∷ fields) h = (refl, both f (flat_map field fields) (each f h.0) (of_fields fields h.1))
 

@@ -17,7 +17,8 @@ ghost use Rattle.statement_text.specs.Statement.{accepted_of, portfolios_under, 
 ghost use Rattle.std.specs.Char.{is_ascii_lowercase};
 ghost use Rattle.std.specs.Fmt.{signed_decimal};
 ghost use Rattle.whatif.specs.Whatif.{change_of};
-ghost use Rattle.std.specs.Prelude.{◌≡◌, ◌⊎◌, ◌+◌, ◌<◌, ◌++◌, [], ◌∷◌, All, Err, List, None, Ok, codes, false, if◌then◌else◌, length, map, ℕ, ℤ};
+ghost use Rattle.std.specs.Prelude.{◌≡◌, ◌⊎◌, ◌+◌, ◌<◌, ◌++◌, [], ◌∷◌, All, Err, List, None, Ok, codes, false, if◌then◌else◌};
+ghost use Rattle.std.specs.Prelude.{length, map, ℕ, ℤ};
 
 /// If more requests follow, the answers to the first ones are the same.
 pub fn answers_are_the_first_of_more()

@@ -8,7 +8,8 @@ use Rattle.span_money.proofs.texts.split_whole.Goals as goal
 pub returns : goal.returns
 returns c =
     let parts = c.in_ok-n.ensures.parts in
-    let fits = fits_64 c.with_minus.result c.in_ok-n.n (omega (arith, c.with_minus.ensures.size)) (omega (arith, c.in_ok-n.ensures.small)) in
+    let fits =
+    fits_64 c.with_minus.result c.in_ok-n.n (omega (arith, c.with_minus.ensures.size)) (omega (arith, c.in_ok-n.ensures.small)) in
     let split = splits_whole c.args.text.now parts.0 c.in_ok-n.rest.now (sym c.split_minus-negative.ensures.rest ∙ parts.1) parts.2 in (
       split.0,
       split.1,

@@ -1,7 +1,6 @@
-use Rattle.std.proofs.Common.{◌≡◌, ◌∙◌, ◌-◌, ap, arith, length, replicate, subst, sym, take}
-use Rattle.std.proofs.Math.Seq.{take-append_seam}
+use Rattle.std.proofs.Common.{◌≡◌, arith, length, subst, sym, take}
 use Rattle.std.proofs.lemmas.List.{length-take}
-use Rattle.span_tables.specs.near.NamePlaces.{name_places, HoldsName}
+use Rattle.span_tables.specs.near.NamePlaces.{HoldsName}
 use Rattle.span_tables.proofs.NamePlaces.{holds_places}
 use Rattle.span_tables.proofs.name.Name.of_first.Goals as goal
 
