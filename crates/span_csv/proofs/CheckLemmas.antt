@@ -1,13 +1,15 @@
 -- The faults of a record's fields, from the results of their tests.
 use Rattle.std.proofs.Common.{◌≡◌, ◌-◌, ◌&&◌, ◌∙◌, ap, refl, sym, ℕ, Bool, true, false, List}
 use Rattle.std.proofs.Common.{[], ◌∷◌, ◌++◌, length, drop, Option, Some, None}
-use Rattle.std.specs.Prelude.{ℤ, is_some, option_map}
+use Rattle.std.specs.Prelude.{ℤ, is_some, option_map, MatchResult, Result, Ok, Err}
 use Rattle.std.specs.Option.{option_map_or}
 use Rattle.std.proofs.lemmas.Bool.{and_parts, and_from}
 use Rattle.span_money.specs.Numbers.{whole_number, decimal_number, month_number}
 use Rattle.span_tables.specs.Faults.{first_that_holds}
-use Rattle.span_csv.specs.near.Checks.{IsFree, IsFaultOf, field_faults}
-use Rattle.span_csv.specs.Records.{Fields, forms_of, kind_of, layout_of, product_at}
+use Rattle.span_tables.specs.declared.records.Record.{Record}
+use Rattle.span_csv.specs.near.Checks.{IsFree, IsFaultOf, IsOfKind, field_faults, kind_faults}
+use Rattle.span_csv.specs.near.Grammar.{is_right}
+use Rattle.span_csv.specs.Records.{Fields, forms_of, kind_of, layout_of, product_at, record_of_kind}
 use Rattle.span_csv.specs.Records.{is_within, is_in_range, has_number_form, has_word_form, all_have}
 use Rattle.span_csv.specs.declared.faults.ParamFault.{ParamFault}
 use Rattle.span_csv.specs.declared.faults.ParamFault.TheVariants as fault
@@ -83,18 +85,24 @@ all_have_both a b (form ∷ forms) [] = refl
 all_have_both a b (form ∷ forms) (text ∷ fields) =
     rw (all_have_both a b forms fields) (both_parts (a form text) (b form text) (all_have a forms fields) (all_have b forms fields))
 
-module _ (forms : List FieldForm) (fields : Fields) (right : Bool)
-    (is : right ≡ all_have (λ form text. has_word_form form text && is_in_range form text) forms fields) where
-  split : right ≡ (all_have has_word_form forms fields && all_have is_in_range forms fields)
-  split = is ∙ all_have_both has_word_form is_in_range forms fields
+module _ (forms : List FieldForm) (fields : Fields) where
+  split : all_have is_right forms fields ≡ (all_have has_word_form forms fields && all_have is_in_range forms fields)
+  split = all_have_both has_word_form is_in_range forms fields
 
   -- in a record that passes, words have their forms and numbers are in their ranges
-  pub right_parts : right ≡ true → (all_have has_word_form forms fields ≡ true) × (all_have is_in_range forms fields ≡ true)
+  pub right_parts : all_have is_right forms fields ≡ true
+      → (all_have has_word_form forms fields ≡ true) × (all_have is_in_range forms fields ≡ true)
   right_parts passes = and_parts _ _ (sym split ∙ passes)
 
   -- a record that fails although its words have their forms has a number out of its range
-  pub range_fails : right ≡ false → all_have has_word_form forms fields ≡ true → all_have is_in_range forms fields ≡ false
+  pub range_fails : all_have is_right forms fields ≡ false → all_have has_word_form forms fields ≡ true
+      → all_have is_in_range forms fields ≡ false
   range_fails fails words = sym (ap (λ b. b && all_have is_in_range forms fields) words) ∙ sym split ∙ fails
+
+  -- if words have their forms and numbers are in their ranges, the record passes
+  pub both_right : all_have has_word_form forms fields ≡ true → all_have is_in_range forms fields ≡ true
+      → all_have is_right forms fields ≡ true
+  both_right words ranges = split ∙ and_from _ _ words ranges
 
 -- ---- the faults of fields
 
@@ -116,3 +124,13 @@ pub out_of_range : (kind : Kind) (profile at : ℕ) (r : Fields) (forms : List F
 out_of_range kind profile at r forms is e words numbers ranges =
     let layout : layout_of profile r ≡ Some forms = rw is e in
     rw (layout, words, numbers, ranges) refl
+
+-- the answer for a record of a kind without a fault of its kind is the answer for its fields
+pub form_told : (first : Bool) (profile at : ℕ) (r : Fields) (kind : Kind) → kind_of r ≡ Some kind → IsFree (kind_faults first r)
+    → (answer : Result Record ParamFault)
+    → MatchResult answer (λ x. (x ≡ record_of_kind kind r) × IsFree (field_faults profile r)) (IsFaultOf (field_faults profile r) at)
+    → MatchResult answer (λ x. IsOfKind r x × IsFree (kind_faults first r ++ field_faults profile r))
+    (IsFaultOf (kind_faults first r ++ field_faults profile r) at)
+form_told first profile at r kind is free (Ok x) told =
+    ((kind, is, told.0), first_append (kind_faults first r) (field_faults profile r) free ∙ told.1)
+form_told first profile at r kind is free (Err e) told = fault_behind (kind_faults first r) (field_faults profile r) at e free told

@@ -1,18 +1,19 @@
 -- The numbers that are read from a record whose fields have their forms.
-use Rattle.std.proofs.Common.{◌≡◌, ◌∙◌, ◌+◌, ◌*◌, ◌<◌, ◌≤◌, ◌&&◌, ◌==◌, sym, refl, ap, arith, ℕ, suc, zero, Bool, true}
+use Rattle.std.proofs.Common.{◌≡◌, ◌∙◌, ◌+◌, ◌*◌, ◌≤◌, ◌&&◌, ◌==◌, sym, refl, ap, arith, ℕ, suc, zero, Bool, true}
 use Rattle.std.proofs.Common.{false, length-append, if◌then◌else◌, ℤ, pos, negsuc, List, [], ◌∷◌, ◌++◌, length, take}
-use Rattle.std.proofs.Common.{drop, Option, Some, None}
+use Rattle.std.proofs.Common.{drop, Option, Some, None, subst}
 use Rattle.std.specs.Prelude.{flat_map, nat_le, nat_abs, replicate, unwrap_or, slice_get}
 use Rattle.std.specs.Char.{is_ascii_digit}
 use Rattle.std.specs.List.{list_all, repeat}
 use Rattle.std.specs.Option.{option_map_or}
 use Rattle.std.proofs.Math.Bool.{and_assoc}
 use Rattle.std.proofs.Math.Nat.{suc-mul}
-use Rattle.std.proofs.lemmas.List.{get_or_past}
-use Rattle.std.proofs.lemmas.Bool.{and_parts, and_from, leb-true, le-leb, eqb-true, ne_eqb, not-false}
+use Rattle.std.proofs.lemmas.List.{at_drop_more, get_or_past}
+use Rattle.std.proofs.lemmas.Bool.{and_parts, leb-true, le-leb, eqb-true, ne_eqb, not-false}
 use Rattle.span_money.specs.Numbers.{positive_part, whole_number, month_number, are_digits, digits_value, is_month}
 use Rattle.span_tables.specs.near.Limits.{lies_within}
 use Rattle.span_csv.specs.ParamFaults.{some_fail}
+use Rattle.span_csv.specs.near.Grammar.{are_right, is_right}
 use Rattle.span_csv.specs.Records.{Fields, count_at, layout_of, text_at, all_have, is_within, is_in_range}
 use Rattle.span_csv.specs.declared.grammar.FieldForm.{FieldForm}
 use Rattle.span_csv.specs.declared.grammar.FieldForm.TheVariants as form
@@ -87,17 +88,19 @@ all_pass test profile word fields forms found e =
     let h = rw found at e in
     not-false (all_have test forms fields) h
 
--- each field passes the test of its form
-pub passes_at : (test : FieldForm → List ℕ → Bool) (forms : List FieldForm) (fields : Fields) (i : ℕ) (f : FieldForm)
-    → all_have test forms fields ≡ true
-    → i < length fields → slice_get forms i ≡ Some f → test f (text_at fields i) ≡ true
-passes_at test [] fields i f all inside is = cc
-passes_at test (g ∷ forms) [] i f all inside is = absurd (omega arith)
-passes_at test (g ∷ forms) (x ∷ fields) zero f all inside is =
+-- each of the fields from an index on is right for its form
+pub right_at : (forms : List FieldForm) (r : Fields) (place i : ℕ) (f : FieldForm) → are_right forms r place ≡ true
+    → slice_get forms i ≡ Some f → is_right f (text_at r (place + i)) ≡ true
+right_at [] r place i f right is = cc
+right_at (g ∷ forms) r place zero f right is =
     let same : g ≡ f = cc in
-    rw (← same) ((and_parts (test g x) (all_have test forms fields) all).0)
-passes_at test (g ∷ forms) (x ∷ fields) (suc i) f all inside is =
-    passes_at test forms fields i f ((and_parts (test g x) (all_have test forms fields) all).1) (omega (arith, inside)) is
+    let here : place ≡ place + 0 = omega arith in
+    subst (λ n. is_right f (text_at r n) ≡ true) here
+    (rw (← same) ((and_parts (is_right g (text_at r place)) (are_right forms r (place + 1)) right).0))
+right_at (g ∷ forms) r place (suc i) f right is =
+    let next : place + 1 + i ≡ place + suc i = omega arith in
+    subst (λ n. is_right f (text_at r n) ≡ true) next
+    (right_at forms r (place + 1) i f (and_parts (is_right g (text_at r place)) (are_right forms r (place + 1)) right).1 is)
 
 -- an empty list of fields passes every test
 pub all_have-none : (test : FieldForm → List ℕ → Bool) (forms : List FieldForm) → all_have test forms [] ≡ true
@@ -113,28 +116,20 @@ all_have-append test (f ∷ front) back (x ∷ fields) =
     rw (all_have-append test front back fields)
     (sym (and_assoc (test f x) (all_have test front fields) (all_have test back (drop (length front) fields))))
 
-pub all_behind : (test : FieldForm → List ℕ → Bool) (front back : List FieldForm) (fields : Fields)
-    → all_have test (front ++ back) fields ≡ true → all_have test back (drop (length front) fields) ≡ true
-all_behind test front back fields all =
-    (and_parts (all_have test front fields) (all_have test back (drop (length front) fields))
-    (sym (all_have-append test front back fields) ∙ all)).1
-
--- a number of fields of one form, before other fields
-pub all_of_form : (test : FieldForm → List ℕ → Bool) (f : FieldForm) (n : ℕ) (back : List FieldForm) (fields : Fields)
-    → all_have test (repeat n (f ∷ []) ++ back) fields ≡ true
-    → list_all (test f) (take n fields) ≡ true
-all_of_form test f zero back fields all = refl
-all_of_form test f (suc n) back [] all = refl
-all_of_form test f (suc n) back (x ∷ fields) all =
-    let parts = and_parts (test f x) (all_have test (repeat n (f ∷ []) ++ back) fields) all in
-    and_from (test f x) (list_all (test f) (take n fields)) parts.0 (all_of_form test f n back fields parts.1)
-
 -- a number of fields of one form pass exactly if each of them does
 pub all_have-repeat : (test : FieldForm → List ℕ → Bool) (f : FieldForm) (n : ℕ) (fields : Fields)
     → all_have test (repeat n (f ∷ [])) fields ≡ list_all (test f) (take n fields)
 all_have-repeat test f zero fields = refl
 all_have-repeat test f (suc n) [] = refl
 all_have-repeat test f (suc n) (x ∷ fields) = ap (λ b. test f x && b) (all_have-repeat test f n fields)
+
+-- fields from an index on pass exactly if the list of them does
+pub are_right_all : (forms : List FieldForm) (r : Fields) (i : ℕ) → i + length forms ≤ length r
+    → are_right forms r i ≡ all_have is_right forms (drop i r)
+are_right_all [] r i room = refl
+are_right_all (form ∷ forms) r i room =
+    ap (λ rest. is_right form (text_at r i) && rest) (are_right_all forms r (i + 1) (omega (arith, room)))
+    ∙ sym (at_drop_more (λ texts. all_have is_right (form ∷ forms) texts) r i [] (omega (arith, room)))
 
 -- ---- layouts
 

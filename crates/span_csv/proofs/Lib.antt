@@ -9,6 +9,7 @@ mod CutPlaces
 mod FieldLemmas
 mod FormLemmas
 mod FormedLemmas
+mod KindLemmas
 mod LegLemmas
 mod LowestLaws
 mod NumberedLemmas

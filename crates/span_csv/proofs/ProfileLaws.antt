@@ -1,5 +1,5 @@
 -- The field that a profile adds to a contract is 0 under the profiles without that field.
-use Rattle.std.proofs.Common.{◌≡◌, ◌∙◌, refl, sym, ap, subst, arith, ℕ, ◌+◌, ◌-◌, ◌<◌, ◌≤◌, true, false}
+use Rattle.std.proofs.Common.{◌≡◌, ◌∙◌, refl, ap, subst, arith, ℕ, ◌+◌, ◌<◌, ◌≤◌, true, false}
 use Rattle.std.proofs.Common.{List, [], ◌∷◌, ◌++◌, length, length-append, map, Some, None, Ok}
 use Rattle.std.specs.Prelude.{All}
 use Rattle.std.specs.List.{AllByRecursion, cons_option}
@@ -15,27 +15,18 @@ use Rattle.span_tables.specs.declared.records.ProductKind.{ProductKind}
 use Rattle.span_tables.specs.declared.records.Record.{Record}
 use Rattle.span_tables.proofs.FaultLaws.{first_fault_none, ok_parts}
 use Rattle.span_csv.specs.ParamFaults.{faults_in, is_set, param_faults, params_of, profile_of, record_fault}
-use Rattle.span_csv.specs.Records.{Fields, a_version, all_have, contract_back, contract_record}
-use Rattle.span_csv.specs.Records.{count_at, exactly, extras_place, is_in_range, kind_of}
-use Rattle.span_csv.specs.Records.{layout_of, param_record, product_at, record_of_kind, records_of, set_forms, text_at}
-use Rattle.span_csv.proofs.CountLemmas.{IsClean, clean, clean_kind, param_record-kind, some_of, word_named}
-use Rattle.span_csv.proofs.FormLemmas.{all_pass, count_past, passes_at}
-use Rattle.span_csv.proofs.RangeLemmas.{contract_with, exact}
-use Rattle.span_csv.specs.declared.grammar.FieldForm.{FieldForm}
+use Rattle.span_csv.specs.Records.{Fields, a_version, contract_back, contract_record}
+use Rattle.span_csv.specs.Records.{count_at, extras_place, is_in_range, kind_of}
+use Rattle.span_csv.specs.Records.{param_record, product_at, record_of_kind, records_of, set_forms, text_at}
+use Rattle.span_csv.proofs.CountLemmas.{IsClean, clean, clean_kind, param_record-kind, word_named}
+use Rattle.span_csv.proofs.FormLemmas.{count_past, right_at}
+use Rattle.span_csv.proofs.KindLemmas.{clean_right}
 use Rattle.span_csv.specs.declared.grammar.Kind.{Kind}
 use Rattle.span_csv.specs.declared.grammar.Kind.TheVariants as kind
 
 -- after its risk array a contract of the profile has at most this many fields
 abbrev EndsBy : ℕ → ℕ → Type 0
 EndsBy few profile = (product : ProductKind) → length (contract_back profile product) ≤ few
-
-contract_end : (few profile : ℕ) (r : Fields) (forms : List FieldForm) → EndsBy few profile → kind_of r ≡ Some kind.Contract
-    → layout_of profile r ≡ Some forms → length r ≤ extras_place + few
-contract_end few profile r forms short is found =
-    let back = contract_back profile (product_at r 3) in
-    let layout : exactly (contract_with back) (length r - 1) ≡ Some forms = rw is at found in
-    let all : length r - 1 ≡ length (contract_with back) = (exact (contract_with back) forms (length r - 1) layout).0 in
-    omega (arith, all, short (product_at r 3))
 
 -- one record after another: the first is the SET, which has the profile
 
@@ -47,21 +38,8 @@ first_kind : (r : Fields) → IsClean [] r → kind_of r ≡ Some kind.Set
 first_kind r c = word_named r kind.Set (not-false (is_set r) c.first)
 
 -- the first record has a version
-version_in : (word : List ℕ) (fields : Fields) (forms : List FieldForm) → kind_of (word ∷ fields) ≡ Some kind.Set
-    → layout_of 1 (word ∷ fields) ≡ Some forms → all_have is_in_range forms fields ≡ true
-    → is_in_range a_version (text_at fields 1) ≡ true
-version_in word fields forms is found all =
-    let count : length (word ∷ fields) - 1 ≡ length fields = omega arith in
-    let layout : exactly set_forms (length fields) ≡ Some forms = rw (is, count) at found in
-    let own = exact set_forms forms (length fields) layout in
-    passes_at is_in_range set_forms fields 1 a_version (subst (λ fs. all_have is_in_range fs fields ≡ true) (sym own.1) all)
-    (omega (arith, own.0)) refl
-
 version_there : (r : Fields) → IsClean [] r → is_in_range a_version (text_at r 2) ≡ true
-version_there [] c = let e = c.kind in cc
-version_there (word ∷ fields) c =
-    let forms = some_of (layout_of 1 (word ∷ fields)) c.layout in
-    version_in word fields forms.0 (first_kind (word ∷ fields) c) forms.1 (all_pass is_in_range 1 word fields forms.0 forms.1 c.ranges)
+version_there r c = right_at set_forms r 1 1 a_version (clean_right [] r c kind.Set (first_kind r c)).1 refl
 
 set_profile : (r : Fields) (rows : List Fields) → IsClean [] r
     → profile_in (map param_record (r ∷ rows)) ≡ profile_of (r ∷ [])
@@ -82,8 +60,8 @@ module _ (place : ℕ) (says : Contract → ℕ) (is_said : (r : Fields) → say
   clean_contract : (earlier : List Fields) (r : Fields) → IsClean earlier r → EndsBy place (profile_of earlier)
       → kind_of r ≡ Some kind.Contract → SaysNothing (contract_record r)
   clean_contract earlier r c short is =
-      let forms = some_of (layout_of (profile_of earlier) r) c.layout in
-      is_said r ∙ count_past r (extras_place + place) (contract_end place (profile_of earlier) r forms.0 short is forms.1)
+      let size = (clean_right earlier r c kind.Contract is).0 in
+      is_said r ∙ count_past r (extras_place + place) (omega (arith, size, short (product_at r 3)))
 
   -- one more record
   contract_more : (k : Kind) (r : Fields) (rest : List Contract) → (k ≡ kind.Contract → SaysNothing (contract_record r))

@@ -1,6 +1,6 @@
 -- The records of a parameter file without a fault are in their ranges, and each kind has no more records than its
 -- limit.
-use Rattle.std.proofs.Common.{◌≡◌, ◌∙◌, refl, sym, ap, ap₂, subst, arith, ℕ, ◌-◌, ◌<◌, ◌≤◌, Bool, true, false, not}
+use Rattle.std.proofs.Common.{◌≡◌, ◌∙◌, refl, sym, ap, ap₂, subst, arith, ℕ, ◌<◌, ◌≤◌, Bool, true, false, not}
 use Rattle.std.proofs.Common.{◌&&◌, ◌||◌, ◌==◌, List, [], ◌∷◌, ◌++◌, length, length-append, map, Option, Some, None, Ok}
 use Rattle.std.specs.Prelude.{All, nat_le, count_by, filter_map, is_some, bytes_eq}
 use Rattle.std.specs.List.{list_all}
@@ -21,15 +21,15 @@ use Rattle.span_tables.specs.declared.records.Record.{Record}
 use Rattle.span_tables.proofs.FaultLaws.{first_fault_none, ok_parts}
 use Rattle.span_tables.proofs.NameLemmas.{same_name}
 use Rattle.span_csv.specs.Records.{Fields}
-use Rattle.span_csv.specs.Records.{records_of, has_word_form, is_in_range}
-use Rattle.span_csv.specs.Records.{forms_of, kind_of, layout_of, product_at, text_at, record_of_kind, param_record}
+use Rattle.span_csv.specs.Records.{records_of}
+use Rattle.span_csv.specs.Records.{kind_of, text_at, record_of_kind, param_record}
 use Rattle.span_csv.specs.ParamFaults.{is_set, profile_of, exceeds_limit, count_of_kind, count_of_commodity}
 use Rattle.span_csv.specs.ParamFaults.{counted, faults_in, param_faults, params_of, record_fault}
-use Rattle.span_csv.proofs.FormLemmas.{all_pass}
+use Rattle.span_csv.proofs.KindLemmas.{clean_right}
 use Rattle.span_csv.proofs.ProfileLaws.{params_values}
 use Rattle.span_csv.proofs.RangeLemmas.{kept}
 use Rattle.span_csv.proofs.CountLemmas.{IsClean, clean, clean_kind, param_record-kind, has_kind, word_of}
-use Rattle.span_csv.proofs.CountLemmas.{named_word, some_of, word_named, IsPicked, count_picked, never_more}
+use Rattle.span_csv.proofs.CountLemmas.{named_word, word_named, IsPicked, count_picked, never_more}
 use Rattle.span_csv.specs.declared.grammar.Kind.{Kind}
 use Rattle.span_csv.specs.declared.grammar.Kind.TheVariants as kind
 
@@ -37,17 +37,10 @@ use Rattle.span_csv.specs.declared.grammar.Kind.TheVariants as kind
 
 -- a record without a fault is in its ranges
 clean_in_range : (earlier : List Fields) (r : Fields) → IsClean earlier r → in_range (param_record r) ≡ true
-clean_in_range earlier [] c = let e = c.kind in cc
-clean_in_range earlier (word ∷ fields) c =
-    let k = clean_kind earlier (word ∷ fields) c in
-    let profile = profile_of earlier in
-    let forms = some_of (layout_of profile (word ∷ fields)) c.layout in
-    let count : length (word ∷ fields) - 1 ≡ length fields = omega arith in
-    let layout : layout_of profile (word ∷ fields) ≡ forms_of k.0 profile (product_at (word ∷ fields) 3) (length fields) =
-    rw (k.1, count) refl in
-    rw (param_record-kind (word ∷ fields) k.0 k.1)
-    (kept word fields forms.0 (all_pass has_word_form profile word fields forms.0 forms.1 c.words)
-    (all_pass is_in_range profile word fields forms.0 forms.1 c.ranges) k.0 profile (sym layout ∙ forms.1)).0
+clean_in_range earlier r c =
+    let k = clean_kind earlier r c in
+    let right = clean_right earlier r c k.0 k.1 in
+    rw (param_record-kind r k.0 k.1) (kept k.0 (profile_of earlier) r right.0 right.1)
 
 all_in_range : (before rows : List Fields) → IsFaultFree record_fault before rows → list_all in_range (map param_record rows) ≡ true
 all_in_range before [] free = refl

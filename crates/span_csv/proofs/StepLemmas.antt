@@ -2,7 +2,8 @@
 use Rattle.std.proofs.Common.{◌≡◌, ◌+◌, ◌∙◌, sym, ap, ap₂, ℕ, true, false, List, [], ◌∷◌, ◌++◌, length, None, Some}
 use Rattle.std.specs.Prelude.{Bool, ⊤, ◌==◌, is_none, option_map, unwrap_or, MatchBool}
 use Rattle.span_tables.specs.Faults.{first_that_holds}
-use Rattle.span_csv.specs.near.Checks.{IsFree, IsFaultOf, kind_faults, field_faults}
+use Rattle.span_tables.specs.declared.records.Record.{Record}
+use Rattle.span_csv.specs.near.Checks.{IsFree, IsFaultOf, IsOfKind, kind_faults, field_faults}
 use Rattle.span_csv.specs.ParamFaults.{counted, exceeds_limit, form_faults, is_formed, is_memory, profile_of, record_faults}
 use Rattle.span_csv.specs.Records.{Fields, kind_of, record_of_kind, param_record}
 use Rattle.span_csv.specs.declared.faults.ParamFault.{ParamFault}
@@ -10,7 +11,6 @@ use Rattle.span_csv.specs.declared.faults.ParamFault.TheVariants as fault
 use Rattle.span_csv.proofs.CheckLemmas.{first_append, first_front}
 use Rattle.span_csv.proofs.FormedLemmas.{unformed}
 use Rattle.span_csv.proofs.RecordLemmas.{told}
-use Rattle.span_csv.specs.declared.grammar.Kind.{Kind}
 use Rattle.span_csv.specs.declared.grammar.Kind.TheVariants as kind
 
 -- a record after n others, under a profile
@@ -61,7 +61,7 @@ module _ (rs : List Fields) (r : Fields) (n profile : ℕ) (len : length rs ≡ 
     pub next_formed : is_formed rs r ≡ true
     next_formed = ap is_none forms_free
 
--- the value of a record of a kind
-pub record_of : (r : Fields) (k : Kind) → kind_of r ≡ Some k → record_of_kind k r ≡ param_record r
+-- the value of a record
+pub record_of : (r : Fields) (x : Record) → IsOfKind r x → x ≡ param_record r
 unfolding param_record
-record_of r k is = ap (λ o. record_of_kind (unwrap_or o kind.Set) r) (sym is)
+record_of r x of = of.2 ∙ ap (λ o. record_of_kind (unwrap_or o kind.Set) r) (sym of.1)

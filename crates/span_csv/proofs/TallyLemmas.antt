@@ -6,10 +6,13 @@ use Rattle.std.specs.List.{count_by}
 use Rattle.std.proofs.lemmas.List.Sums.{sum_by_push, count_by-le-length}
 use Rattle.std.proofs.lemmas.Bool.{eq-eqb, ne_eqb}
 use Rattle.span_tables.proofs.NameLemmas.{same_name}
-use Rattle.span_csv.specs.near.Checks.{AddsRecord, Counts, KeepsProfile, Tallies, count_for, count_in, count_word, count_words, limit_of}
+use Rattle.span_tables.specs.declared.records.Record.{Record}
+use Rattle.span_tables.specs.declared.records.Record.TheVariants as record_of
+use Rattle.span_csv.specs.near.Checks.{AddsRecord, Counts, IsOfKind, KeepsProfile, Tallies, count_for, count_in, count_word, count_words}
+use Rattle.span_csv.specs.near.Checks.{limit_of}
 use Rattle.span_csv.specs.ParamFaults.{counted, exceeds_limit, is_formed, profile_of}
 use Rattle.span_csv.specs.Records.{Fields}
-use Rattle.span_csv.specs.Records.{kind_of, text_at}
+use Rattle.span_csv.specs.Records.{kind_of, record_of_kind, text_at}
 use Rattle.span_csv.specs.declared.tally.Tally.{Tally}
 use Rattle.span_csv.proofs.CountLemmas.{named_word, word_of}
 use Rattle.span_csv.proofs.FormedLemmas.{counted_few, counted_more, counted_same}
@@ -67,7 +70,7 @@ grown t u rs r first is counts g = record {
   inters = word_more _ _ (codes "INTER") rs r first is g.inters counts.inters;
 }
 
-grows : (t u : Tally) (kind : Kind) (r : Fields) → AddsRecord kind r t u → Grows t u (word_of kind) r
+grows : (t u : Tally) (kind : Kind) (r : Fields) → AddsRecord (record_of_kind kind r) t u → Grows t u (word_of kind) r
 grows t u kind.Set r adds = search rules
 grows t u _ r adds = search rules
 
@@ -102,20 +105,19 @@ module _ (t kept : Tally) (rs : List Fields) (r : Fields) (n : ℕ) (len : lengt
   tally_same e = record { profile = kept_profile; counts = subst (Counts kept) (sym (counted_same rs r e)) kept_counts }
 
   -- a record with none of P1 to P7 is counted
-  pub tally_more : (u : Tally) (kind : Kind) → kind_of r ≡ Some kind → is_formed rs r ≡ true → AddsRecord kind r kept u
-      → Tallies u (rs ++ r ∷ [])
-  tally_more u kind is formed adds =
-      let g = grows kept u kind r adds in
+  pub tally_more : (u : Tally) (x : Record) → IsOfKind r x → is_formed rs r ≡ true → AddsRecord x kept u → Tallies u (rs ++ r ∷ [])
+  tally_more u x of formed adds =
+      let g = grows kept u of.0 r (subst (λ y. AddsRecord y kept u) of.2 adds) in
       record {
         profile = g.profile ∙ kept_profile;
-        counts = subst (Counts u) (sym (counted_more rs r formed)) (grown kept u (counted rs) r (word_of kind) (kind_word r kind is)
+        counts = subst (Counts u) (sym (counted_more rs r formed)) (grown kept u (counted rs) r (word_of of.0) (kind_word r of.0 of.1)
             kept_counts g);
       }
 
 -- ---- the limit
 
 count_exceeds : (t : Tally) (kind : Kind) (rs : List Fields) (r : Fields) → kind_of r ≡ Some kind → Counts t rs
-    → exceeds_limit rs r (kind_of r) ≡ (count_for t kind (text_at r 1) == limit_of kind)
+    → exceeds_limit rs r (kind_of r) ≡ (count_for t (record_of_kind kind r) == limit_of (record_of_kind kind r))
 count_exceeds t kind.Set rs r is tallies = ap (exceeds_limit rs r) is
 count_exceeds t kind.Commodity rs r is tallies = rw (is, kind_word r kind.Commodity is, tallies.commodities) refl
 count_exceeds t kind.Contract rs r is tallies = rw (is, kind_word r kind.Contract is, tallies.contracts) refl
@@ -124,25 +126,28 @@ count_exceeds t kind.Intra rs r is tallies = rw (is, kind_word r kind.Intra is, 
 count_exceeds t kind.Spot rs r is tallies = rw (is, kind_word r kind.Spot is, tallies.spots (text_at r 1)) refl
 count_exceeds t kind.Inter rs r is tallies = rw (is, kind_word r kind.Inter is, tallies.inters) refl
 
-few_counted : (t : Tally) (kind : Kind) (rs : List Fields) (cc : List ℕ) → Counts t rs → count_for t kind cc ≤ length rs
-few_counted t kind.Set rs cc counts = omega arith
-few_counted t kind.Commodity rs cc counts = rw counts.commodities (count_by-le-length _ rs)
-few_counted t kind.Contract rs cc counts = rw counts.contracts (count_by-le-length _ rs)
-few_counted t kind.Tier rs cc counts = subst (λ n. n ≤ length rs) (sym (counts.tiers cc)) (count_by-le-length _ rs)
-few_counted t kind.Intra rs cc counts = subst (λ n. n ≤ length rs) (sym (counts.intras cc)) (count_by-le-length _ rs)
-few_counted t kind.Spot rs cc counts = subst (λ n. n ≤ length rs) (sym (counts.spots cc)) (count_by-le-length _ rs)
-few_counted t kind.Inter rs cc counts = rw counts.inters (count_by-le-length _ rs)
+few_counted : (t : Tally) (x : Record) (rs : List Fields) → Counts t rs → count_for t x ≤ length rs
+few_counted t (record_of.Set x) rs counts = omega arith
+few_counted t (record_of.Commodity x) rs counts = rw counts.commodities (count_by-le-length _ rs)
+few_counted t (record_of.Contract x) rs counts = rw counts.contracts (count_by-le-length _ rs)
+few_counted t (record_of.Tier x) rs counts = subst (λ n. n ≤ length rs) (sym (counts.tiers x.commodity)) (count_by-le-length _ rs)
+few_counted t (record_of.Intra x) rs counts = subst (λ n. n ≤ length rs) (sym (counts.intras x.commodity)) (count_by-le-length _ rs)
+few_counted t (record_of.Spot x) rs counts = subst (λ n. n ≤ length rs) (sym (counts.spots x.commodity)) (count_by-le-length _ rs)
+few_counted t (record_of.Inter x) rs counts = rw counts.inters (count_by-le-length _ rs)
 
 -- no more records are counted than were read
-pub count_small : (t : Tally) (kind : Kind) (rs : List Fields) (cc : List ℕ) → Counts t (counted rs) → count_for t kind cc ≤ length rs
-count_small t kind rs cc counts = omega (arith, few_counted t kind (counted rs) cc counts, counted_few rs)
+pub count_small : (t : Tally) (x : Record) (rs : List Fields) → Counts t (counted rs) → count_for t x ≤ length rs
+count_small t x rs counts = omega (arith, few_counted t x (counted rs) counts, counted_few rs)
 
-module _ (t : Tally) (kind : Kind) (rs : List Fields) (r : Fields) (count limit : ℕ) (is : kind_of r ≡ Some kind) (tallies : Counts t rs)
-    (counts : count ≡ count_for t kind (text_at r 1)) (limits : limit ≡ limit_of kind) where
+module _ (t : Tally) (x : Record) (rs : List Fields) (r : Fields) (count limit : ℕ) (of : IsOfKind r x) (tallies : Counts t rs)
+    (counts : count ≡ count_for t x) (limits : limit ≡ limit_of x) where
+  exceeds : exceeds_limit rs r (kind_of r) ≡ (count_for t x == limit_of x)
+  exceeds = count_exceeds t of.0 rs r of.1 tallies ∙ ap (λ y. count_for t y == limit_of y) (sym of.2)
+
   -- if a kind already has the maximum number of records, one more exceeds the limit
   pub count_full : count ≡ limit → exceeds_limit rs r (kind_of r) ≡ true
-  count_full e = count_exceeds t kind rs r is tallies ∙ eq-eqb _ _ (sym counts ∙ e ∙ limits)
+  count_full e = exceeds ∙ eq-eqb _ _ (sym counts ∙ e ∙ limits)
 
   -- if a kind has fewer records than the maximum, one more is within the limit
   pub count_within : (count ≡ limit → ⊥) → exceeds_limit rs r (kind_of r) ≡ false
-  count_within e = count_exceeds t kind rs r is tallies ∙ ne_eqb _ _ (λ h. e (counts ∙ h ∙ sym limits))
+  count_within e = exceeds ∙ ne_eqb _ _ (λ h. e (counts ∙ h ∙ sym limits))

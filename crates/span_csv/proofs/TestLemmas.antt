@@ -1,15 +1,16 @@
 -- Tests of all fields of a record, one field after another.
 use Rattle.std.proofs.Common.{◌≡◌, ◌<◌, ◌≤◌, ◌+◌, ◌&&◌, ◌∙◌, sym, ap, ap₂, arith, ℕ, Bool, true}
-use Rattle.std.proofs.Common.{List, [], ◌∷◌, ◌++◌, length, length-append, get_or, drop, refl, take}
-use Rattle.std.specs.List.{list_all, repeat}
+use Rattle.std.proofs.Common.{List, [], ◌∷◌, ◌++◌, length, length-append, get_or, drop, refl}
+use Rattle.std.specs.List.{repeat}
 use Rattle.std.proofs.lemmas.List.{at_drop_more, at_drop_all, drop-drop, get_or-drop, length-drop}
 use Rattle.span_tables.specs.declared.limits.TheConstants.{SCENARIOS}
-use Rattle.span_tables.specs.declared.records.ProductKind.{ProductKind}
-use Rattle.span_csv.specs.Records.{Fields, all_have, an_array_value, array_place, contract_back, contract_forms, contract_front, text_at}
+use Rattle.span_csv.specs.near.Grammar.{is_right, is_right_contract}
+use Rattle.span_csv.specs.Records.{Fields, all_have, an_array_value, array_place, contract_back, contract_forms, contract_front}
+use Rattle.span_csv.specs.Records.{product_at, text_at}
 use Rattle.span_csv.specs.declared.rows.TheConstants.{EXTRAS}
 use Rattle.span_csv.specs.declared.grammar.FieldForm.{FieldForm}
 use Rattle.span_csv.specs.declared.grammar.FieldForm.TheVariants as form
-use Rattle.span_csv.proofs.FormLemmas.{all_have-append, all_have-repeat}
+use Rattle.span_csv.proofs.FormLemmas.{all_have-append, all_have-repeat, are_right_all}
 
 module _ (test : FieldForm → List ℕ → Bool) (forms : List FieldForm) (fields : Fields) (place : ℕ)
     (room : place + length forms ≤ length fields) where
@@ -60,11 +61,12 @@ pub layout_told : (test : FieldForm → List ℕ → Bool) (front middle back : 
 layout_told test front middle back fields forms is a b c in_front in_middle in_back =
     rw (in_front, in_middle, in_back, ← is) (sym (layout_all test front middle back fields))
 
--- all fields of a CONTRACT, whose risk array is tested value by value
-pub contract_told : (test : FieldForm → List ℕ → Bool) (profile : ℕ) (product : ProductKind) (fields : Fields) (a b c : Bool)
-    → a ≡ all_have test contract_front (drop 1 fields) → b ≡ list_all (test an_array_value) (take SCENARIOS (drop array_place fields))
-    → c ≡ all_have test (contract_back profile product) (drop EXTRAS fields)
-    → ((a && b) && c) ≡ all_have test (contract_forms profile product) (drop 1 fields)
-contract_told test profile product fields a b c in_front in_array in_back =
-    layout_told test contract_front (repeat SCENARIOS (an_array_value ∷ [])) (contract_back profile product) fields _ refl a b c in_front
-    (in_array ∙ sym (all_have-repeat test an_array_value SCENARIOS (drop array_place fields))) in_back
+-- all fields of a CONTRACT, whose risk array is read value by value
+pub contract_right : (profile : ℕ) (r : Fields) → length r ≡ EXTRAS + length (contract_back profile (product_at r 3))
+    → is_right_contract profile r ≡ all_have is_right (contract_forms profile (product_at r 3)) (drop 1 r)
+contract_right profile r long =
+    let back = contract_back profile (product_at r 3) in
+    layout_told is_right contract_front (repeat SCENARIOS (an_array_value ∷ [])) back r _ refl _ _ _
+    (are_right_all contract_front r 1 (omega (arith, long)))
+    (sym (all_have-repeat is_right an_array_value SCENARIOS (drop array_place r)))
+    (are_right_all back r EXTRAS (omega (arith, long)))

@@ -1,5 +1,5 @@
 -- The values of a risk array, one after another.
-use Rattle.std.proofs.Common.{◌≡◌, ◌≢◌, ◌<◌, ◌≤◌, ◌+◌, ◌∙◌, ◌&&◌, sym, ap, ap₂, arith, ℕ, Bool, true, false, List, [], length}
+use Rattle.std.proofs.Common.{◌≡◌, ◌≢◌, ◌<◌, ◌≤◌, ◌+◌, ◌∙◌, ◌&&◌, sym, ap, ap₂, arith, ℕ, true, false, List, [], length}
 use Rattle.std.proofs.Common.{length-drop, get_or, take, drop, map, ℤ, pos, get_or-set_other, get_or-set_same, below_more}
 use Rattle.std.proofs.lemmas.List.{ext_get_or, get_or-map, get_or-drop, get_or-take, length-take-le}
 use Rattle.std.proofs.lemmas.List.Folds.{list_all_at, list_all_more}
@@ -9,9 +9,8 @@ use Rattle.std.specs.Prelude.{unwrap_or}
 use Rattle.span_money.specs.Numbers.{whole_number}
 use Rattle.span_tables.specs.declared.limits.TheConstants.{SCENARIOS}
 use Rattle.span_csv.specs.declared.rows.TheConstants.{EXTRAS, FIRST_VALUE}
-use Rattle.span_csv.specs.near.Grammar.{passes}
-use Rattle.span_csv.specs.Records.{Fields, an_array_value, is_in_range, text_at, whole_at}
-use Rattle.span_csv.specs.declared.grammar.FieldTest.TheVariants as field_test
+use Rattle.span_csv.specs.near.Grammar.{is_right}
+use Rattle.span_csv.specs.Records.{Fields, an_array_value, text_at, whole_at}
 
 -- one more value
 pub values_more : (values : List ℤ) (i : ℕ) (v : ℤ) (fields : Fields) → i < length values → v ≡ whole_at fields (FIRST_VALUE + i)
@@ -40,27 +39,25 @@ values_all values fields sixteen all each =
 
 -- ---- the test of the values
 
-abbrev pub array_passes : List ℕ → Bool
-array_passes = passes field_test.All an_array_value
-
-module _ (fields : Fields) (all : EXTRAS ≤ length fields) (i : ℕ) (few : i < SCENARIOS) (text : List ℕ)
-    (is : text ≡ text_at fields (FIRST_VALUE + i)) (b : Bool) (answer : b ≡ is_in_range an_array_value text) where
+module _ (fields : Fields) (all : EXTRAS ≤ length fields) (i : ℕ) (few : i < SCENARIOS) where
   abbrev array : Fields
   array = drop FIRST_VALUE fields
 
-  here : array_passes (get_or array i []) ≡ b
-  here = ap array_passes (get_or-drop FIRST_VALUE fields i [] ∙ sym is) ∙ sym answer
+  here : is_right an_array_value (get_or array i []) ≡ is_right an_array_value (text_at fields (FIRST_VALUE + i))
+  here = ap (is_right an_array_value) (get_or-drop FIRST_VALUE fields i [])
 
-  -- if the values before it pass and this one passes, so does the prefix that ends with it
-  pub value_passed : b ≡ true → list_all array_passes (take i array) ≡ true → list_all array_passes (take (i + 1) array) ≡ true
-  value_passed holds before =
+  -- if the values before it are right and this one is, so is the prefix that ends with it
+  pub value_right : is_right an_array_value (text_at fields (FIRST_VALUE + i)) ≡ true
+      → list_all (is_right an_array_value) (take i array) ≡ true → list_all (is_right an_array_value) (take (i + 1) array) ≡ true
+  value_right right before =
       let there : i < length array = omega (arith, length-drop FIRST_VALUE fields) in
-      list_all_more array_passes array i [] there ∙ ap₂ (λ a b. a && b) before (here ∙ holds)
+      list_all_more (is_right an_array_value) array i [] there ∙ ap₂ (λ a b. a && b) before (here ∙ right)
 
-  -- if a value fails, the whole array fails
-  pub value_failed : b ≡ false → false ≡ list_all array_passes (take SCENARIOS array)
+  -- if a value is not right, the array is not
+  pub value_failed : is_right an_array_value (text_at fields (FIRST_VALUE + i)) ≡ false
+      → list_all (is_right an_array_value) (take SCENARIOS array) ≡ false
   value_failed fails =
       let enough : SCENARIOS ≤ length array = omega (arith, length-drop FIRST_VALUE fields) in
       let there : i < length (take SCENARIOS array) = omega (arith, length-take-le SCENARIOS array enough) in
-      sym (list_all_at array_passes (take SCENARIOS array) i [] there
-      (ap array_passes (get_or-take SCENARIOS array i [] few) ∙ here ∙ fails))
+      list_all_at (is_right an_array_value) (take SCENARIOS array) i [] there
+      (ap (is_right an_array_value) (get_or-take SCENARIOS array i [] few) ∙ here ∙ fails)

@@ -1,14 +1,14 @@
-//! The faults of a single record: its kind, its number of fields, and their forms and ranges.
-ghost use Rattle.std.specs.Prelude.{◌≡◌, ◌++◌, IfOk, MatchResult, OnOk, Some};
-ghost use Rattle.span_csv.specs.near.Checks.{IsFaultOf, IsFree, field_faults, kind_faults};
-ghost use Rattle.span_csv.specs.near.Grammar.{FitsKind, HasValues};
+//! The value of a single record, or its fault: its kind, its number of fields, and their forms and ranges.
+ghost use Rattle.std.specs.Prelude.{◌≡◌, ◌++◌, MatchResult, Some};
+ghost use Rattle.span_csv.specs.near.Checks.{IsFaultOf, IsFree, IsOfKind, field_faults, kind_faults};
 ghost use Rattle.span_csv.specs.ParamFaults.{is_set};
-ghost use Rattle.span_csv.specs.Records.{kind_of};
+ghost use Rattle.span_csv.specs.Records.{kind_of, record_of_kind};
 
+use crate::contents::record_of_kind;
 use crate::faults::ParamFault;
-use crate::grammar::{FieldTest, Kind, fits, kind_named};
+use crate::grammar::{FieldTest, Kind, kind_named};
 use crate::row::{Row, text_at};
-use span_tables::limits::SCENARIOS;
+use span_tables::records::Record;
 
 /// Returns whether a record is a SET.
 pub(crate) fn is_set(row: &Row) -> bool
@@ -36,27 +36,19 @@ fn check_kind(first: bool, at: usize, row: &Row) -> Result<Kind, ParamFault>
     }
 }
 
-// Checks the number of fields of a record under a profile, and their forms and ranges. Also reads the values of a risk
-// array.
-fn check_fields(
-    at: usize,
-    profile: u8,
-    kind: Kind,
-    row: &Row,
-    values: &mut [i32; SCENARIOS],
-) -> Result<(), ParamFault>
+// Returns the value of a record of a kind under a profile. Checks the number of its fields, and their forms and ranges.
+fn check_fields(at: usize, profile: u8, kind: Kind, row: &Row) -> Result<Record, ParamFault>
     requires { kind_of row.now ≡ Some kind }
-    ensures values { OnOk result (HasValues kind row.now values.new) }
-    ensures told { MatchResult result
-        (λ _. FitsKind kind row.now × IsFree (field_faults profile row.now))
+    ensures { MatchResult result
+        (λ x. (x ≡ record_of_kind kind row.now) × IsFree (field_faults profile row.now))
         (λ e. IsFaultOf (field_faults profile row.now) at e) }
 {
     let Some(layout) = kind.layout(profile, row) else {
         return Err(ParamFault::FieldCount { at });
     };
     // A record without a fault needs only one pass over its fields.
-    if fits(kind, profile, &layout, row, values) {
-        return Ok(());
+    if let Some(record) = record_of_kind(kind, profile, row) {
+        return Ok(record);
     }
     if !layout.all_have(FieldTest::Word, row) {
         return Err(ParamFault::BadName { at });
@@ -68,23 +60,18 @@ fn check_fields(
     }
 }
 
-/// Returns the kind of a record whose fields have their forms under a profile, or its lowest-numbered fault. Limits are
-/// not checked here. Of the earlier records only their presence and their profile matter. Also reads the values of a
-/// risk array.
+/// Returns the value of a record whose fields have their forms under a profile, or its lowest-numbered fault. Limits
+/// are not checked here. Of the earlier records only their presence and their profile matter.
 pub(crate) fn check_form(
     first: bool,
     at: usize,
     profile: u8,
     row: &Row,
-    values: &mut [i32; SCENARIOS],
-) -> Result<Kind, ParamFault>
-    ensures values { IfOk result (λ kind. HasValues kind row.now values.new) }
-    ensures kind { MatchResult result
-        (λ kind. (kind_of row.now ≡ Some kind) × FitsKind kind row.now)
+) -> Result<Record, ParamFault>
+    ensures { MatchResult result
+        (λ x. IsOfKind row.now x × IsFree (kind_faults first row.now ++ field_faults profile row.now))
         (λ e. IsFaultOf (kind_faults first row.now ++ field_faults profile row.now) at e) }
-    ensures free { OnOk result (IsFree (kind_faults first row.now ++ field_faults profile row.now)) }
 {
     let kind = check_kind(first, at, row)?;
-    check_fields(at, profile, kind, row, values)?;
-    Ok(kind)
+    check_fields(at, profile, kind, row)
 }

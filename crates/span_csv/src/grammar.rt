@@ -1,18 +1,14 @@
 //! The kinds of records of a parameter file, and the forms of their fields.
 ghost use Rattle.std.specs.Char.{is_ascii_uppercase};
 ghost use Rattle.std.specs.List.{list_all, repeat};
-ghost use Rattle.std.specs.Prelude.{◌≡◌, ◌≤◌, ◌<◌, ◌&&◌, ◌++◌, ◌==◌, ◌+◌, ◌-◌, ◌^◌, [], IfSome, Some, drop, length};
-ghost use Rattle.std.specs.Prelude.{replicate, slice_index_or, take, true};
-ghost use Rattle.span_csv.specs.near.Grammar.{array_values, HasValues, passes};
+ghost use Rattle.std.specs.Prelude.{◌≡◌, ◌≤◌, ◌<◌, ◌&&◌, ◌++◌, ◌==◌, ◌+◌, ◌-◌, ◌^◌, [], IfSome, drop, length};
+ghost use Rattle.std.specs.Prelude.{replicate, slice_index_or};
+ghost use Rattle.span_csv.specs.near.Grammar.{passes};
 ghost use Rattle.span_csv.specs.Records.{all_have, contract_back, contract_forms, forms_of, has_number_form, has_word_form};
-ghost use Rattle.span_csv.specs.Records.{an_array_value, array_place, is_in_range, is_within, kind_named, product_at, with_legs};
-ghost use Rattle.span_csv.specs.declared.rows.TheConstants.{EXTRAS};
-ghost use Rattle.span_csv.specs.declared.grammar.FieldTest.TheVariants as field_test;
+ghost use Rattle.span_csv.specs.Records.{kind_named, product_at, with_legs};
 
-use crate::fields::product_at;
-use crate::row::{Row, field, text_at};
-use crate::rows::{EXTRAS, FIRST_VALUE};
-use span_money::texts::{is_month, parse_decimal, parse_month, parse_whole};
+use crate::row::{Row, text_at};
+use span_money::texts::{parse_decimal, parse_month, parse_whole};
 use span_tables::limits::{
     MAX_ARRAY_VALUE, MAX_BASIS_POINTS, MAX_DELTA, MAX_OPTION_VALUE, MAX_PRIORITY, MAX_PROFILE,
     MAX_RATE, MAX_RATIO, MAX_SCALE, MAX_TIER_NUMBER, SCENARIOS,
@@ -47,17 +43,15 @@ pub enum Kind {
     Inter,
 }
 
-/// The test of a field: `Word` tests the form of words, `Number` the form of numbers, and `All` the form of words and
-/// the range of numbers.
+/// The test of a field: `Word` tests the form of words, and `Number` the form of numbers.
 #[derive(Clone, Copy)]
 pub(crate) enum FieldTest {
     Word,
     Number,
-    All,
 }
 
-/// A version, which is the number of a profile. The bounds of this and the following numbers are inclusive.
-pub(crate) const VERSION: FieldForm = FieldForm::Whole(1, MAX_PROFILE as i64);
+// A version, which is the number of a profile. The bounds of this and the following numbers are inclusive.
+const VERSION: FieldForm = FieldForm::Whole(1, MAX_PROFILE as i64);
 
 const RATE: FieldForm = FieldForm::Whole(0, MAX_RATE as i64);
 
@@ -67,11 +61,7 @@ const PRIORITY: FieldForm = FieldForm::Whole(1, MAX_PRIORITY as i64);
 
 const BASIS_POINTS: FieldForm = FieldForm::Whole(0, MAX_BASIS_POINTS as i64);
 
-const LOWEST_VALUE: i64 = -(MAX_ARRAY_VALUE as i64);
-
-const HIGHEST_VALUE: i64 = MAX_ARRAY_VALUE as i64;
-
-const ARRAY_VALUE: FieldForm = FieldForm::Whole(LOWEST_VALUE, HIGHEST_VALUE);
+const ARRAY_VALUE: FieldForm = FieldForm::Whole(-(MAX_ARRAY_VALUE as i64), MAX_ARRAY_VALUE as i64);
 
 // The option value of a future.
 const NO_VALUE: FieldForm = FieldForm::Whole(0, 0);
@@ -163,6 +153,17 @@ pub(crate) fn kind_named(word: &[u8]) -> Option<Kind>
     }
 }
 
+// Returns the kind of contract that a field names, or a put if it names none.
+fn product_at(row: &Row, i: usize) -> ProductKind
+    ensures { result ≡ product_at row.now i }
+{
+    match text_at(row, i) {
+        b"F" => ProductKind::Future,
+        b"C" => ProductKind::Call,
+        _ => ProductKind::Put,
+    }
+}
+
 // Returns a layout of the front forms and the forms of a number of legs.
 fn with_times(
     front: &'static [FieldForm],
@@ -247,40 +248,6 @@ fn all_from(test: FieldTest, forms: &[FieldForm], row: &Row, place: usize) -> bo
     true
 }
 
-// Returns whether each value of a risk array is a number in its range. If so, `values` contains them.
-fn read_values(row: &Row, values: &mut [i32; SCENARIOS]) -> bool
-    requires { EXTRAS ≤ length row.now }
-    ensures told { result ≡ list_all (passes field_test.All an_array_value) (take SCENARIOS (drop array_place row.now)) }
-    ensures values { result ≡ true → values.new ≡ array_values row.now }
-{
-    for i in 0..SCENARIOS {
-        let value = parse_whole(field(row, FIRST_VALUE + i));
-        if !is_within(LOWEST_VALUE, HIGHEST_VALUE, value) {
-            return false;
-        }
-        values[i] = value.unwrap_or(0) as i32;
-    }
-    true
-}
-
-// Returns whether each field of a CONTRACT after the first passes all tests of its form. If so, `values` contains its
-// risk array.
-fn fits_contract(profile: u8, row: &Row, values: &mut [i32; SCENARIOS]) -> bool
-    requires { length row.now ≡ length (contract_forms profile (product_at row.now 3)) + 1 }
-    ensures told { result
-        ≡ all_have (passes field_test.All) (contract_forms profile (product_at row.now 3)) (drop 1 row.now) }
-    ensures values { result ≡ true → values.new ≡ array_values row.now }
-{
-    if !all_from(FieldTest::All, &CONTRACT_FRONT, row, 1) {
-        return false;
-    }
-    if !read_values(row, values) {
-        return false;
-    }
-    let back = contract_back(profile, product_at(row, 3));
-    all_from(FieldTest::All, back, row, EXTRAS)
-}
-
 impl Layout {
     ghost use Rattle.std.specs.Prelude.{◌≡◌, ◌+◌, drop, length};
     ghost use Rattle.span_csv.specs.near.Grammar.{passes};
@@ -342,28 +309,8 @@ impl Kind {
     }
 }
 
-/// Returns whether each field of a record after the first passes all tests of its form, given the layout for the
-/// record's kind. If so, `values` contains the risk array of a CONTRACT.
-pub(crate) fn fits(
-    kind: Kind,
-    profile: u8,
-    layout: &Layout,
-    row: &Row,
-    values: &mut [i32; SCENARIOS],
-) -> bool
-    requires found { forms_of kind profile (product_at row.now 3) (length row.now - 1) ≡ Some layout.now }
-    requires count { length row.now ≡ length layout.now + 1 }
-    ensures told { result ≡ all_have (passes field_test.All) layout.now (drop 1 row.now) }
-    ensures values { result ≡ true → HasValues kind row.now values.new }
-{
-    match kind {
-        Kind::Contract => fits_contract(profile, row, values),
-        _ => layout.all_have(FieldTest::All, row),
-    }
-}
-
-// Returns whether a text is three letters from `A` to `Z`.
-fn is_currency(text: &[u8]) -> bool
+/// Returns whether a text is three letters from `A` to `Z`.
+pub(crate) fn is_currency(text: &[u8]) -> bool
     ensures { result ≡ (length text.now == 3) && list_all is_ascii_uppercase text.now }
 {
     text.len() == 3 && are_uppercase(text)
@@ -373,16 +320,6 @@ fn are_uppercase(text: &[u8]) -> bool
     ensures { result ≡ list_all is_ascii_uppercase text.now }
 {
     text.iter().all(|byte| byte.is_ascii_uppercase())
-}
-
-// Returns whether there is a number, and it is between the lowest and the highest value.
-fn is_within(low: i64, high: i64, number: Option<i64>) -> bool
-    ensures { result ≡ is_within low high number }
-{
-    match number {
-        Some(n) => low <= n && n <= high,
-        None => false,
-    }
 }
 
 impl FieldForm {
@@ -410,29 +347,13 @@ impl FieldForm {
         }
     }
 
-    fn is_in_range(self, text: &[u8]) -> bool
-        ensures { result ≡ is_in_range self text.now }
-    {
-        match self {
-            FieldForm::Whole(low, high) => is_within(low, high, parse_whole(text)),
-            FieldForm::Decimal(low, high) => is_within(low, high, parse_decimal(text)),
-            FieldForm::Month => match parse_month(text) {
-                Some(month) => is_month(month),
-                None => false,
-            },
-            _ => true,
-        }
-    }
-
-    /// Returns whether a field's text passes the test of its form.
-    #[inline(always)]
-    pub(crate) fn passes(self, test: FieldTest, text: &[u8]) -> bool
+    // Returns whether a field's text passes the test of its form.
+    fn passes(self, test: FieldTest, text: &[u8]) -> bool
         ensures { result ≡ passes test self text.now }
     {
         match test {
             FieldTest::Word => self.has_word_form(text),
             FieldTest::Number => self.has_number_form(text),
-            FieldTest::All => self.has_word_form(text) && self.is_in_range(text),
         }
     }
 }

@@ -7,12 +7,10 @@ ghost use Rattle.span_csv.specs.Records.{Fields, param_record};
 ghost use Rattle.span_tables.specs.Gives.{Gives};
 
 use crate::checks::check_form;
-use crate::contents::record_of_kind;
 use crate::faults::ParamFault;
 use crate::row::Row;
 use crate::rows::Rows;
-use crate::tally::Tally;
-use span_tables::limits::SCENARIOS;
+use crate::tally::{Tally, limit_of};
 use span_tables::raw::RawTables;
 use span_tables::records::Record;
 use std::alloc::{AllocError, Global};
@@ -28,14 +26,13 @@ fn next_record(tally: &mut Tally, earlier: usize, row: &Row) -> Result<Record, P
     let at = earlier + 1;
     let profile = tally.profile();
     tally.keep_profile(earlier == 0, row);
-    let mut values = [0; SCENARIOS];
-    let kind = check_form(earlier == 0, at, profile, row, &mut values)?;
-    let count = tally.count(kind, row);
-    tally.add(kind, row)?;
-    if count == kind.limit() {
+    let record = check_form(earlier == 0, at, profile, row)?;
+    let count = tally.count(&record);
+    tally.add(&record)?;
+    if count == limit_of(&record) {
         return Err(ParamFault::TooMany { at });
     }
-    Ok(record_of_kind(kind, row, &values))
+    Ok(record)
 }
 
 // Appends each row of a file to `records`, which is empty before.

@@ -1,20 +1,18 @@
 //! The profile of a file, and the number of records read of each kind that has a limit.
 ghost use Rattle.std.specs.Prelude.{◌≡◌, ◌+◌, ◌<◌, ◌^◌, OnOk, [], ◌∷◌};
 ghost use Rattle.span_csv.specs.near.Checks.{CountsOne, count_in, limit_of};
-ghost use Rattle.span_csv.specs.near.Grammar.{FitsKind};
 ghost use Rattle.span_csv.specs.ParamFaults.{profile_of};
-ghost use Rattle.span_csv.specs.Records.{text_at};
 
 use crate::checks::is_set;
-use crate::fields::{name_at, profile_at};
-use crate::grammar::{FieldTest, Kind, VERSION};
-use crate::row::{Row, text_at};
+use crate::fields::profile_in;
+use crate::row::Row;
 use indexmap::IndexMap;
 use span_tables::limits::{
     MAX_COMMODITIES, MAX_CONTRACTS, MAX_INTER_SPREADS, MAX_INTRA_SPREADS, MAX_SPOT_MONTHS,
     MAX_TIERS,
 };
 use span_tables::name::Name;
+use span_tables::records::Record;
 use std::alloc::{AllocError, Global};
 
 // Returns the count of a commodity.
@@ -28,12 +26,12 @@ fn count_of(counts: &IndexMap<Name, usize>, commodity: &Name) -> usize
 }
 
 // Adds one to the count of a commodity.
-fn count_one(counts: &mut IndexMap<Name, usize>, commodity: Name) -> Result<(), AllocError>
-    requires { count_in counts.old commodity + 1 < 2 ^ 64 }
-    ensures { OnOk result (CountsOne counts.old commodity counts.new) }
+fn count_one(counts: &mut IndexMap<Name, usize>, commodity: &Name) -> Result<(), AllocError>
+    requires { count_in counts.old commodity.now + 1 < 2 ^ 64 }
+    ensures { OnOk result (CountsOne counts.old commodity.now counts.new) }
 {
-    let count = count_of(counts, &commodity);
-    match counts.insert(commodity, count + 1) {
+    let count = count_of(counts, commodity);
+    match counts.insert(commodity.copied(), count + 1) {
         Ok(_) => Ok(()),
         Err(_) => Err(AllocError),
     }
@@ -43,27 +41,25 @@ fn count_one(counts: &mut IndexMap<Name, usize>, commodity: Name) -> Result<(), 
 fn profile_from(first: &Row) -> u8
     ensures { result ≡ profile_of (first.now ∷ []) }
 {
-    if is_set(first) && VERSION.passes(FieldTest::All, text_at(first, 2)) {
-        profile_at(first, 2)
+    if is_set(first) {
+        profile_in(first, 2).unwrap_or(1)
     } else {
         1
     }
 }
 
-impl Kind {
-    /// Returns the maximum number of records of the kind, or of the kind and a commodity.
-    pub(crate) fn limit(self) -> usize
-        ensures { result ≡ limit_of self }
-    {
-        match self {
-            Kind::Set => 1,
-            Kind::Commodity => MAX_COMMODITIES,
-            Kind::Contract => MAX_CONTRACTS,
-            Kind::Tier => MAX_TIERS,
-            Kind::Intra => MAX_INTRA_SPREADS,
-            Kind::Spot => MAX_SPOT_MONTHS,
-            Kind::Inter => MAX_INTER_SPREADS,
-        }
+/// Returns the maximum number of records of a record's kind, or of its kind and commodity.
+pub(crate) fn limit_of(value: &Record) -> usize
+    ensures { result ≡ limit_of value.now }
+{
+    match value {
+        Record::Set(_) => 1,
+        Record::Commodity(_) => MAX_COMMODITIES,
+        Record::Contract(_) => MAX_CONTRACTS,
+        Record::Tier(_) => MAX_TIERS,
+        Record::Intra(_) => MAX_INTRA_SPREADS,
+        Record::Spot(_) => MAX_SPOT_MONTHS,
+        Record::Inter(_) => MAX_INTER_SPREADS,
     }
 }
 
@@ -105,19 +101,18 @@ impl Tally {
         self.profile
     }
 
-    /// Returns the number of records that the limit of a record's kind counts.
-    pub(crate) fn count(&self, kind: Kind, row: &Row) -> usize
-        requires { FitsKind kind row.now }
-        ensures { result ≡ count_for self.now kind (text_at row.now 1) }
+    /// Returns the number of records that the limit of a record counts.
+    pub(crate) fn count(&self, value: &Record) -> usize
+        ensures { result ≡ count_for self.now value.now }
     {
-        match kind {
-            Kind::Set => 0,
-            Kind::Commodity => self.commodities,
-            Kind::Contract => self.contracts,
-            Kind::Tier => count_of(&self.tiers, &name_at(row, 1)),
-            Kind::Intra => count_of(&self.intras, &name_at(row, 1)),
-            Kind::Spot => count_of(&self.spots, &name_at(row, 1)),
-            Kind::Inter => self.inters,
+        match value {
+            Record::Set(_) => 0,
+            Record::Commodity(_) => self.commodities,
+            Record::Contract(_) => self.contracts,
+            Record::Tier(tier) => count_of(&self.tiers, &tier.commodity),
+            Record::Intra(spread) => count_of(&self.intras, &spread.commodity),
+            Record::Spot(spot) => count_of(&self.spots, &spot.commodity),
+            Record::Inter(_) => self.inters,
         }
     }
 
@@ -132,19 +127,18 @@ impl Tally {
     }
 
     /// Counts a record if its kind has a limit.
-    pub(crate) fn add(&mut self, kind: Kind, row: &Row) -> Result<(), AllocError>
-        requires forms { FitsKind kind row.now }
-        requires room { count_for self.old kind (text_at row.now 1) + 1 < 2 ^ 64 }
-        ensures { OnOk result (AddsRecord kind row.now self.old self.new) }
+    pub(crate) fn add(&mut self, value: &Record) -> Result<(), AllocError>
+        requires { count_for self.old value.now + 1 < 2 ^ 64 }
+        ensures { OnOk result (AddsRecord value.now self.old self.new) }
     {
-        match kind {
-            Kind::Set => {}
-            Kind::Commodity => self.commodities += 1,
-            Kind::Contract => self.contracts += 1,
-            Kind::Tier => count_one(&mut self.tiers, name_at(row, 1))?,
-            Kind::Intra => count_one(&mut self.intras, name_at(row, 1))?,
-            Kind::Spot => count_one(&mut self.spots, name_at(row, 1))?,
-            Kind::Inter => self.inters += 1,
+        match value {
+            Record::Set(_) => {}
+            Record::Commodity(_) => self.commodities += 1,
+            Record::Contract(_) => self.contracts += 1,
+            Record::Tier(tier) => count_one(&mut self.tiers, &tier.commodity)?,
+            Record::Intra(spread) => count_one(&mut self.intras, &spread.commodity)?,
+            Record::Spot(spot) => count_one(&mut self.spots, &spot.commodity)?,
+            Record::Inter(_) => self.inters += 1,
         }
         Ok(())
     }

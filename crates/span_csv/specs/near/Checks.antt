@@ -6,17 +6,17 @@ use Rattle.std.specs.Prelude.{codes, bytes_eq, Result}
 use Rattle.std.specs.HashMap.{HashMap, get}
 use Rattle.span_tables.specs.Faults.{first_of, first_that_holds, ok_unless}
 use Rattle.span_tables.specs.declared.records.Record.{Record}
+use Rattle.span_tables.specs.declared.records.Record.TheVariants as record_of
 use Rattle.span_tables.specs.declared.limits.TheConstants.{MAX_COMMODITIES, MAX_CONTRACTS, MAX_TIERS}
 use Rattle.span_tables.specs.declared.limits.TheConstants.{MAX_INTRA_SPREADS, MAX_SPOT_MONTHS, MAX_INTER_SPREADS}
 use Rattle.span_csv.specs.Records.{Fields}
-use Rattle.span_csv.specs.Records.{kind_of, layout_of, text_at, has_word_form, has_number_form, is_in_range, param_record}
+use Rattle.span_csv.specs.Records.{kind_of, layout_of, text_at, has_word_form, has_number_form, is_in_range, param_record, record_of_kind}
 use Rattle.span_csv.specs.ParamFaults.{counted, faults_in, is_set, profile_of, some_fail, record_fault, is_memory}
 use Rattle.span_csv.specs.near.Telling.{Judges}
 use Rattle.span_csv.specs.declared.faults.ParamFault.{ParamFault}
 use Rattle.span_csv.specs.declared.faults.ParamFault.TheVariants as fault
 use Rattle.span_csv.specs.declared.tally.Tally.{Tally}
 use Rattle.span_csv.specs.declared.grammar.Kind.{Kind}
-use Rattle.span_csv.specs.declared.grammar.Kind.TheVariants as kind
 
 -- the faults of a record's kind, for the first record of a file and for a later one
 abbrev pub kind_faults : Bool → Fields → List (Bool × (ℕ → ParamFault))
@@ -38,17 +38,21 @@ IsFaultOf faults at answer = option_map (λ f. f at) (first_that_holds faults) �
 abbrev pub IsFree : List (Bool × (ℕ → ParamFault)) → Type 0
 IsFree faults = first_that_holds faults ≡ None
 
+-- the record is the value of the fields for their kind
+abbrev pub IsOfKind : Fields → Record → Type 0
+IsOfKind r x = (kind : Kind) × (kind_of r ≡ Some kind) × (x ≡ record_of_kind kind r)
+
 -- ---- counts
 
--- the maximum number of records of a kind, or of a kind and commodity
-abbrev pub limit_of : Kind → ℕ
-limit_of kind.Set = 1
-limit_of kind.Commodity = MAX_COMMODITIES
-limit_of kind.Contract = MAX_CONTRACTS
-limit_of kind.Tier = MAX_TIERS
-limit_of kind.Intra = MAX_INTRA_SPREADS
-limit_of kind.Spot = MAX_SPOT_MONTHS
-limit_of kind.Inter = MAX_INTER_SPREADS
+-- the maximum number of records of a record's kind, or of its kind and commodity
+abbrev pub limit_of : Record → ℕ
+limit_of (record_of.Set x) = 1
+limit_of (record_of.Commodity x) = MAX_COMMODITIES
+limit_of (record_of.Contract x) = MAX_CONTRACTS
+limit_of (record_of.Tier x) = MAX_TIERS
+limit_of (record_of.Intra x) = MAX_INTRA_SPREADS
+limit_of (record_of.Spot x) = MAX_SPOT_MONTHS
+limit_of (record_of.Inter x) = MAX_INTER_SPREADS
 
 -- the number of records that begin with a word
 abbrev pub count_word : List ℕ → List Fields → ℕ
@@ -66,29 +70,29 @@ count_in counts cc = unwrap_or (get bytes_eq counts cc) 0
 abbrev pub CountsOne : {S : Type 0} → HashMap (List ℕ) ℕ S → List ℕ → HashMap (List ℕ) ℕ S → Type 0
 CountsOne old cc new = (q : List ℕ) → count_in new q ≡ count_in old q + (if bytes_eq cc q then 1 else 0)
 
--- the count that the limit of a kind and commodity refers to
-abbrev pub count_for : Tally → Kind → List ℕ → ℕ
-count_for t kind.Set cc = 0
-count_for t kind.Commodity cc = t.commodities
-count_for t kind.Contract cc = t.contracts
-count_for t kind.Tier cc = count_in t.tiers cc
-count_for t kind.Intra cc = count_in t.intras cc
-count_for t kind.Spot cc = count_in t.spots cc
-count_for t kind.Inter cc = t.inters
+-- the count that the limit of a record refers to
+abbrev pub count_for : Tally → Record → ℕ
+count_for t (record_of.Set x) = 0
+count_for t (record_of.Commodity x) = t.commodities
+count_for t (record_of.Contract x) = t.contracts
+count_for t (record_of.Tier x) = count_in t.tiers x.commodity
+count_for t (record_of.Intra x) = count_in t.intras x.commodity
+count_for t (record_of.Spot x) = count_in t.spots x.commodity
+count_for t (record_of.Inter x) = t.inters
 
 -- the first record of a file sets its profile, and later records keep it
 abbrev pub KeepsProfile : Bool → Fields → Tally → Tally → Type 0
 KeepsProfile first r old new = new ≡ record old { profile = if first then profile_of (r ∷ []) else old.profile }
 
 -- a record is counted if its kind has a limit
-abbrev pub AddsRecord : Kind → Fields → Tally → Tally → Type 0
-AddsRecord kind.Set r old new = new ≡ old
-AddsRecord kind.Commodity r old new = new ≡ record old { commodities = old.commodities + 1 }
-AddsRecord kind.Contract r old new = new ≡ record old { contracts = old.contracts + 1 }
-AddsRecord kind.Tier r old new = CountsOne old.tiers (text_at r 1) new.tiers × (new ≡ record old { tiers = new.tiers })
-AddsRecord kind.Intra r old new = CountsOne old.intras (text_at r 1) new.intras × (new ≡ record old { intras = new.intras })
-AddsRecord kind.Spot r old new = CountsOne old.spots (text_at r 1) new.spots × (new ≡ record old { spots = new.spots })
-AddsRecord kind.Inter r old new = new ≡ record old { inters = old.inters + 1 }
+abbrev pub AddsRecord : Record → Tally → Tally → Type 0
+AddsRecord (record_of.Set x) old new = new ≡ old
+AddsRecord (record_of.Commodity x) old new = new ≡ record old { commodities = old.commodities + 1 }
+AddsRecord (record_of.Contract x) old new = new ≡ record old { contracts = old.contracts + 1 }
+AddsRecord (record_of.Tier x) old new = CountsOne old.tiers x.commodity new.tiers × (new ≡ record old { tiers = new.tiers })
+AddsRecord (record_of.Intra x) old new = CountsOne old.intras x.commodity new.intras × (new ≡ record old { intras = new.intras })
+AddsRecord (record_of.Spot x) old new = CountsOne old.spots x.commodity new.spots × (new ≡ record old { spots = new.spots })
+AddsRecord (record_of.Inter x) old new = new ≡ record old { inters = old.inters + 1 }
 
 -- the counts of the tally are the counts of these records
 pub record Counts (t : Tally) (rs : List Fields) : Type 0 where

@@ -1,11 +1,7 @@
-use Rattle.std.proofs.Common.{◌≡◌, rules, Err}
-use Rattle.span_csv.specs.near.Checks.{field_faults, kind_faults}
-use Rattle.span_csv.proofs.CheckLemmas.{fault_behind}
+use Rattle.span_csv.proofs.CheckLemmas.{form_told}
 use Rattle.span_csv.proofs.checks.check_form.Goals as goal
 
-pub returns-in_err-check_fields-clause-kind : goal.returns-in_err-check_fields-clause-kind
-returns-in_err-check_fields-clause-kind c =
-    let e : c.from_residual-in_err-check_fields.result ≡ Err c.in_err-check_fields.field-0.0 = search rules in
-    rw e (fault_behind (kind_faults c.args.first c.args.row.now)
-    (field_faults c.args.profile c.args.row.now) c.args.at c.in_err-check_fields.field-0.0 c.in_ok-kind.ensures.1
-    c.in_err-check_fields.ensures.told)
+pub returns : goal.returns
+returns c =
+    form_told c.args.first c.args.profile c.args.at c.args.row.now c.in_ok-kind.kind c.in_ok-kind.ensures.0 c.in_ok-kind.ensures.1
+    c.check_fields.result c.check_fields.ensures

@@ -1,10 +1,7 @@
-use Rattle.std.proofs.Common.{◌≡◌, ◌+◌, ◌*◌, ◌++◌, length, drop, map}
-use Rattle.span_csv.specs.Records.{intra_leg, legs_of}
+use Rattle.span_csv.specs.near.Grammar.{is_right}
+use Rattle.span_csv.specs.Records.{all_have, intra_leg, intra_leg_forms}
+use Rattle.span_csv.proofs.LegLemmas.{LegsRead}
 use Rattle.span_csv.proofs.contents.intra_legs.Given as goal
 
 abbrev pub invariant-loop-i : goal.invariant-loop-i
-invariant-loop-i l = record {
-  count : length l.legs.items ≡ l.i;
-  left : l.legs.items ++ map intra_leg (legs_of (drop (4 + 3 * l.i) l.row))
-      ≡ map intra_leg (legs_of (drop 4 l.row));
-}
+invariant-loop-i l = LegsRead intra_leg (all_have is_right intra_leg_forms) 4 l.row l.i l.legs.items
