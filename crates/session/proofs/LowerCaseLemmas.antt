@@ -77,7 +77,7 @@ line_free l plain =
     free-append l.word (flat_map field l.fields ++ 10 ∷ []) (text_free l.word plain.word)
     (free-append (flat_map field l.fields) (10 ∷ []) (fields_free l.fields plain.fields) (refl, tt))
 
--- texts of elements of which P holds
+-- texts of elements for which P holds
 texts_free : {A : Type 0} (P : A → Type 0) (text : A → List ℕ) → ((x : A) → P x → IsFree (text x)) → (xs : List A) → AllByRecursion P xs
     → IsFree (flat_map text xs)
 texts_free P text each [] all = tt

@@ -47,7 +47,7 @@ legs_count front leg forms n e =
     ]
 
 module _ (r : Fields) (forms : List FieldForm) (some : 1 ≤ length r) where
-  -- the forms of a layout are those of the record
+  -- the layout has the forms of the record
   own : (want : List FieldForm) (test : Bool) → test ≡ all_have is_right want (drop 1 r) → exactly want (length r - 1) ≡ Some forms
       → test ≡ all_have is_right forms (drop 1 r)
   own want test same found = same ∙ ap (λ fs. all_have is_right fs (drop 1 r)) (exact want forms (length r - 1) found).1
@@ -100,7 +100,7 @@ module _ (r : Fields) (forms : List FieldForm) (some : 1 ≤ length r) where
   has_size kind.Inter profile found = has_legs inter_front form.Name form.Side a_ratio found
   has_size _ profile found = tt
 
-  -- the test of a record is that of the fields of its layout
+  -- a record is tested as the fields of its layout are
   pub right_is : (kind : Kind) (profile : ℕ) → IsFound kind profile
       → is_right_record kind profile r ≡ all_have is_right forms (drop 1 r)
   right_is kind.Set profile found = fixed set_forms found

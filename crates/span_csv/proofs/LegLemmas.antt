@@ -9,7 +9,7 @@ use Rattle.span_csv.specs.Records.{Fields, all_have, legs_of, text_at}
 use Rattle.span_csv.specs.declared.grammar.FieldForm.{FieldForm}
 use Rattle.span_csv.proofs.FormLemmas.{all_have-append}
 
--- the fields of legs pass exactly if those of each leg do
+-- the fields of all legs pass exactly if the fields of each leg do
 pub legs_right : (a b c : FieldForm) (k : ℕ) (xs : Fields) → length xs ≡ k * 3
     → all_have is_right (repeat k (a ∷ b ∷ c ∷ [])) xs ≡ list_all (all_have is_right (a ∷ b ∷ c ∷ [])) (legs_of xs)
 legs_right a b c zero [] len = refl
