@@ -2,7 +2,7 @@
 -- all requests keep it.
 use Rattle.std.proofs.Common.{◌≡◌, ◌<◌, ℕ, Bool, true, false, ◌&&◌, List, [], ◌∷◌, ◌++◌, length, map}
 use Rattle.std.proofs.Common.{Option, Some, None, Result, Ok, Err, refl, sym, subst, arith, append_assoc, length-drop}
-use Rattle.std.specs.Prelude.{◌==◌, ⊤, All, IfOk, drop, if◌then◌else◌, is_ok, nat_lt}
+use Rattle.std.specs.Prelude.{◌==◌, ⊤, IfOk, drop, if◌then◌else◌, is_ok, nat_lt}
 use Rattle.std.proofs.lemmas.Bool.{or_left, or_right}
 use Rattle.std.proofs.lemmas.List.{append-nil}
 use Rattle.span_csv.specs.Records.{text_at}

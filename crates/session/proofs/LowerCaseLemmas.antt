@@ -1,7 +1,7 @@
 -- The lines of an answer before its last line have no lower-case letter.
-use Rattle.std.proofs.Common.{◌≡◌, ◌∙◌, ◌≤◌, ℕ, Bool, true, false, List, [], ◌∷◌, ◌++◌, filter, flat_map, map}
-use Rattle.std.proofs.Common.{Option, Some, None, Result, Ok, Err, refl, sym, ap, subst, arith}
-use Rattle.std.specs.Prelude.{◌==◌, ⊤, All, IfOk, bytes_eq, codes, if◌then◌else◌, length, option_map, pos, slice_get}
+use Rattle.std.proofs.Common.{◌≡◌, ◌≤◌, ℕ, Bool, true, false, List, [], ◌∷◌, ◌++◌, filter, flat_map, map}
+use Rattle.std.proofs.Common.{Option, Some, None, Result, Ok, Err, refl, sym, subst, arith}
+use Rattle.std.specs.Prelude.{◌==◌, ⊤, All, IfOk, bytes_eq, codes, if◌then◌else◌, length, pos, slice_get}
 use Rattle.std.specs.Char.{is_ascii_lowercase}
 use Rattle.std.specs.Fmt.{signed_decimal}
 use Rattle.std.specs.List.{AllByRecursion}
@@ -9,7 +9,6 @@ use Rattle.std.proofs.lemmas.Bool.Decides.{nat_tests}
 use Rattle.std.proofs.lemmas.List.Concat.{flat_map-append}
 use Rattle.std.proofs.lemmas.List.Elements.{All-from_recursion, All-head}
 use Rattle.span_money.specs.LineFields.{Line, field, line}
-use Rattle.span_csv.specs.PositionFaults.{positions_of}
 use Rattle.span_tables.specs.Faults.{ok_unless}
 use Rattle.span_tables.specs.Net.{AccountHoldings}
 use Rattle.span_tables.specs.Orders.{holdings_among}
@@ -22,8 +21,7 @@ use Rattle.binding.specs.declared.faults.BindFault.{BindFault}
 use Rattle.binding.specs.declared.trades.Trade.{Trade}
 use Rattle.sources.specs.Files.{File}
 use Rattle.sources.specs.declared.ReadFault.TheVariants as read
-use Rattle.plan_ir.specs.Figures.{commodity_at, option_value_of}
-use Rattle.statement_text.specs.Statement.{accepted_of, row_text, statement_text, total_line, total_numbers, total_of}
+use Rattle.statement_text.specs.Statement.{accepted_of, row_text, statement_text}
 use Rattle.statement_text.specs.declared.faults.SpanFault.{SpanFault}
 use Rattle.statement.specs.Counts.{counts_line}
 use Rattle.explanation.specs.Explanation.{account_lines, account_text}
