@@ -6,9 +6,8 @@ ghost use Rattle.session.specs.Requests.{AreTradable};
 ghost use Rattle.span_tables.specs.Gives.{Gives};
 ghost use Rattle.span_tables.specs.Holdings.{ArePortfolio, fits};
 ghost use Rattle.std.specs.Arc.{arc_value};
-ghost use Rattle.std.specs.Prelude.{◌≡◌, ◌++◌, IfOk, OnOk, length, true};
+ghost use Rattle.std.specs.Prelude.{◌≡◌, ◌↔◌, ◌++◌, IfOk, IsTrue, OnOk, length, true};
 ghost use Rattle.whatif.specs.Whatif.{order_text};
-ghost use Rattle.whatif.specs.near.Numbers.{AreNumbers};
 ghost use Rattle.worker_pool.specs.Batches.{FitsSet};
 
 use binding::faults::BindFault;
@@ -23,8 +22,23 @@ use std::marker::Model;
 use std::sync::Arc;
 use step_scheduler::rows::Row;
 use whatif::lines::Trial;
-use whatif::numbers::{Numbers, numbers_of};
 use worker_pool::plain::Runs;
+
+// Whether two lists of holdings are the same.
+fn are_same(some: &[Holding], others: &[Holding]) -> bool
+    ensures { IsTrue result ↔ (some.now ≡ others.now) }
+{
+    if some.len() != others.len() {
+        return false;
+    }
+    for place in 0..some.len() {
+        let (one, other) = (some[place], others[place]);
+        if one.contract != other.contract || one.net != other.net {
+            return false;
+        }
+    }
+    true
+}
 
 /// A compiled parameter set, with what is prepared once for it: runs under it, and a trader in its contracts. Contracts
 /// see the set.
@@ -34,18 +48,22 @@ pub(crate) struct SetInUse {
     set: Arc<CompiledSet>,
     runs: Runs,
     trader: Trader,
+    // The row before the last order, since several orders are often tried on one account.
+    before: Option<Arc<Row>>,
 }
 
 impl Model for SetInUse {
     ghost use Rattle.plan_compiler.specs.Compiled.{SetView};
     ghost use Rattle.session.specs.near.InUse.{IsInUse};
     ghost use Rattle.std.specs.Arc.{arc_value};
+    ghost use Rattle.std.specs.Prelude.{◌≡◌, IfSome};
 
     ghost Value = { SetView };
 
     ghost view = { λ s. arc_value s.set };
 
-    ghost invariant = { λ s. IsInUse (arc_value s.set) s.runs s.trader };
+    ghost invariant = { λ s. IsInUse (arc_value s.set) s.runs s.trader
+        × IfSome s.before (λ row. (arc_value row).set ≡ arc_value s.set) };
 }
 
 impl SetInUse {
@@ -60,6 +78,7 @@ impl SetInUse {
             set,
             runs,
             trader,
+            before: None,
         })
     }
 
@@ -103,16 +122,23 @@ impl SetInUse {
         self.trader.after(self.alloc, account, held, trades)
     }
 
-    // The numbers of an account with these holdings.
-    fn numbers_of(&mut self, account: &Name, held: &[Holding]) -> Result<Numbers, AllocError>
+    // The row of an account with these holdings, which is kept for the next order.
+    fn row_before(&mut self, account: &Name, held: &[Holding]) -> Result<Arc<Row>, AllocError>
         requires held { ArePortfolio held.now }
         requires fits { fits (length self.old.tables.contracts) held.now ≡ true }
         ensures same { self.new ≡ self.old }
-        ensures numbers { IfOk result (AreNumbers self.old.tables held.now) }
+        ensures row { IfOk result (λ row. arc_value row
+            ≡ record { set = self.old; portfolio = record { account = account.now; holdings = held.now } }) }
     {
+        if let Some(row) = &self.before {
+            if row.account() == account && are_same(row.portfolio().holdings(), held) {
+                return Arc::try_clone(row);
+            }
+        }
         let holdings = Vec::from_slice(self.alloc, held)?;
         let row = self.row(Portfolio::new(account.copied(), holdings))?;
-        numbers_of(self.alloc, &row)
+        self.before = Some(Arc::try_clone(&row)?);
+        Ok(row)
     }
 
     /// Appends the lines of an order, from the holdings of its account before it and the portfolio after it.
@@ -131,9 +157,9 @@ impl SetInUse {
         ensures lines { OnOk result (out.new.items ≡ out.old.items ++ order_text self.old.tables
             (record { order = order.now; before = record { account = account.now; holdings = held.now }; after = after })) }
     {
-        let before = self.numbers_of(account, held)?;
-        let row = self.row(after)?;
-        Trial::new(self.set.tables(), order, &before, &row).push_to(out)
+        let before = self.row_before(account, held)?;
+        let after = self.row(after)?;
+        Trial::new(order, &before, &after).push_to(out)
     }
 
     /// Appends the T line of an account, which has its total.

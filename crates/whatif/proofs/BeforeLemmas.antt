@@ -1,29 +1,27 @@
--- The numbers of each account before its order, from the numbers of what is held at places.
+-- The row of each account before its order, from the rows of what is held at places.
 use Rattle.std.proofs.Common.{refl, sym, ap, ◌≡◌, ◌∙◌, ℕ, zero, suc, ◌<◌, List, [], ◌∷◌, ◌++◌, get_or, length, map, subst, arith, inl, inr}
-use Rattle.std.proofs.Common.{append_assoc, true, Bool}
+use Rattle.std.proofs.Common.{true, Bool}
 use Rattle.std.specs.Option.{option_eq}
-use Rattle.std.specs.Prelude.{Err, IfOk, MatchOption, None, Ok, Option, Result, Some, nat_eq, option_map, slice_get, slice_index_or}
-use Rattle.std.specs.List.{AllZip, list_any}
+use Rattle.std.specs.Prelude.{MatchOption, None, Option, Some, nat_eq, option_map, slice_get, slice_index_or}
+use Rattle.std.specs.Arc.{arc_value}
+use Rattle.std.specs.List.{list_any}
 use Rattle.std.proofs.Math.Seq.{get_or-append_seam}
 use Rattle.std.proofs.lemmas.Bool.{cases_Bool, cases_lt, eqb-true}
-use Rattle.std.proofs.lemmas.List.{append-nil, get_or_append_left, length-append, map-append}
+use Rattle.std.proofs.lemmas.List.{append-nil, get_or_append_left, length-append, length-map, map-append}
 use Rattle.std.proofs.lemmas.List.Elements.{All-cons, All-nil}
 use Rattle.std.proofs.lemmas.Option.{get_or_from_slice_get, slice_get-get_or, slice_get-map, slice_get_within}
 use Rattle.indexmap.specs.IndexSet.{insert_key}
 use Rattle.span_tables.specs.Holdings.{fits}
 use Rattle.span_tables.specs.Net.{AccountHoldings}
-use Rattle.span_tables.specs.Tables.{AcceptedTables}
 use Rattle.span_tables.specs.declared.portfolios.Holding.{Holding}
 use Rattle.binding.specs.OrderBinding.{TriedOrders}
 use Rattle.plan_compiler.specs.Compiled.{SetView}
 use Rattle.step_scheduler.specs.Rows.{RowView}
 use Rattle.worker_pool.specs.Batches.{AllFit, FitsSet}
 use Rattle.worker_teams.specs.near.OutcomeRows.{rows_of_accounts}
-use Rattle.whatif.specs.near.Befores.{AreBefores, AreKept, AreNumbersAt, AreSlots, HasSlot, held_at, held_by}
-use Rattle.whatif.specs.near.Numbers.{AreNumbers, AreOfRow, no_order, order_at}
+use Rattle.whatif.specs.near.Befores.{AreBefores, AreKept, AreSlots, HasSlot, IsRowOf, held_at, held_by}
+use Rattle.whatif.specs.near.Orders.{no_order, order_at}
 use Rattle.whatif.specs.declared.befores.Befores.{Befores}
-use Rattle.whatif.specs.declared.numbers.Numbers.{Numbers}
-use Rattle.whatif.proofs.TextLemmas.{AllZip-append}
 
 -- ---- slots
 
@@ -81,28 +79,9 @@ module _ (tried : TriedOrders) where
         rw (at, get_or-append_seam slots slot [] 0) last
   ]
 
--- ---- numbers
+-- ---- rows
 
 module _ (set : SetView) (all : List AccountHoldings) where
-  -- the numbers of rows are the numbers of what their portfolios hold
-  numbers_of_rows : (portfolios : List AccountHoldings) (numbers : List Numbers)
-      → AllZip AreOfRow (rows_of_accounts set portfolios) numbers
-      → AllZip (AreNumbers set.tables) (map (λ p. p.holdings) portfolios) numbers
-  numbers_of_rows [] [] zip = tt
-  numbers_of_rows [] (n ∷ numbers) zip = absurd zip
-  numbers_of_rows (p ∷ portfolios) [] zip = absurd zip
-  numbers_of_rows (p ∷ portfolios) (n ∷ numbers) zip = (zip.0, numbers_of_rows portfolios numbers zip.1)
-
-  -- and these are the numbers of places, if the portfolios hold what is held there
-  pub numbers_of_places : {X E : Type 0} (view : X → List Numbers) (places : List (Option ℕ)) (portfolios : List AccountHoldings)
-      (rows : List RowView) (r : Result X E) → map (λ p. p.holdings) portfolios ≡ map (held_at all) places
-      → rows ≡ rows_of_accounts set portfolios → IfOk r (λ x. AllZip AreOfRow rows (view x))
-      → IfOk r (λ x. AreNumbersAt set.tables all places (view x))
-  numbers_of_places view places portfolios rows (Ok x) held are zip =
-      subst (λ hs. AllZip (AreNumbers set.tables) hs (view x)) held
-      (numbers_of_rows portfolios (view x) (subst (λ rs. AllZip AreOfRow rs (view x)) are zip))
-  numbers_of_places view places portfolios rows (Err e) held are zip = tt
-
   module _ (fit : AllFit set all) where
     held_fits : (place : Option ℕ) → fits (length set.tables.contracts) (held_at all place) ≡ true
     held_fits None = refl
@@ -122,55 +101,37 @@ module _ (set : SetView) (all : List AccountHoldings) where
         All-cons (FitsSet set) p portfolios (subst (λ h. fits (length set.tables.contracts) h ≡ true) (sym own) (held_fits place))
         (places_fit places portfolios others)
 
-module _ (t : AcceptedTables) (all : List AccountHoldings) where
-  -- all places have numbers, if the places that are left have
-  abbrev pub HasAllBut : List (Option ℕ) → List (Option ℕ) → List Numbers → Type 0
-  HasAllBut places left numbers =
-      (rest : List Numbers) → AreNumbersAt t all left rest → AreNumbersAt t all places (numbers ++ rest)
+-- the row at a slot is of these holdings
+record AreAt (set : SetView) (rows : List RowView) (slot : ℕ) (holdings : List Holding) : Type 0 where
+  in_range : slot < length rows
+  each : (r : RowView) → slice_get rows slot ≡ Some r → IsRowOf set holdings r
 
-  -- after the first of the places that are left
-  pub more_numbers : (places left now later : List (Option ℕ)) (numbers these more : List Numbers) → HasAllBut places left numbers
-      → left ≡ now ++ later → AreNumbersAt t all now these → more ≡ numbers ++ these → HasAllBut places later more
-  more_numbers places left now later numbers these more have parts own are rest others =
-      rw (are, append_assoc numbers these rest) (have (these ++ rest) (rw (parts, map-append (held_at all) now later)
-      (AllZip-append (AreNumbers t) (map (held_at all) now) (map (held_at all) later) these rest own others)))
-
-  -- no place is left
-  pub all_numbers : (places left : List (Option ℕ)) (numbers : List Numbers) → HasAllBut places left numbers → length left ≡ 0
-      → AreNumbersAt t all places numbers
-  all_numbers places [] numbers have none = rw (← append-nil numbers) (have [] tt)
-  all_numbers places (place ∷ left) numbers have none = absurd (omega (arith, none))
-
--- the numbers at a slot are the numbers of these holdings
-record AreAt (t : AcceptedTables) (all : List Numbers) (slot : ℕ) (holdings : List Holding) : Type 0 where
-  in_range : slot < length all
-  each : (numbers : Numbers) → slice_get all slot ≡ Some numbers → AreNumbers t holdings numbers
-
-module _ (t : AcceptedTables) where
-  numbers_at : (held : List (List Holding)) (all : List Numbers) (slot : ℕ) (holdings : List Holding)
-      → AllZip (AreNumbers t) held all → slice_get held slot ≡ Some holdings → AreAt t all slot holdings
-  numbers_at [] all slot holdings zip has = cc
-  numbers_at (h ∷ held) [] slot holdings zip has = absurd zip
-  numbers_at (h ∷ held) (n ∷ all) zero holdings zip has = record {
+module _ (set : SetView) where
+  rows_at : (portfolios : List AccountHoldings) (slot : ℕ) (holdings : List Holding)
+      → slice_get (map (λ p. p.holdings) portfolios) slot ≡ Some holdings → AreAt set (rows_of_accounts set portfolios) slot holdings
+  rows_at [] slot holdings has = cc
+  rows_at (p ∷ portfolios) zero holdings has = record {
     in_range = omega arith;
-    each = λ numbers is.
-        let own : h ≡ holdings = cc in
-        let same : n ≡ numbers = cc in
-        rw (← own, ← same) zip.0;
+    each = λ r is.
+        let own : p.holdings ≡ holdings = cc in
+        let same : ◌≡◌ {A = RowView} (record { set = set; portfolio = p }) r = cc in
+        rw (← same) (record { set_is = refl; holds = own });
   }
-  numbers_at (h ∷ held) (n ∷ all) (suc slot) holdings zip has =
-      let rest = numbers_at held all slot holdings zip.1 has in
+  rows_at (p ∷ portfolios) (suc slot) holdings has =
+      let rest = rows_at portfolios slot holdings has in
       record { in_range = omega (arith, rest.in_range); each = rest.each }
 
-  pub befores_are : (tried : TriedOrders) (places : List (Option ℕ)) (befores : Befores)
+  pub befores_are : (tried : TriedOrders) (places : List (Option ℕ)) (portfolios : List AccountHoldings) (befores : Befores)
       → length befores.slots.items ≡ length tried.orders → AreSlots tried places befores.slots.items
-      → AreNumbersAt t tried.portfolios places befores.numbers.items → AreBefores t tried befores
-  befores_are tried places befores every slots zip =
-      let at = λ (i : ℕ) (lt : i < length tried.orders).
-      numbers_at _ befores.numbers.items (slice_index_or befores.slots.items i 0) (order_at tried i).before.holdings zip
-      (slots i (omega (arith, lt, every))) in
+      → map (λ p. p.holdings) portfolios ≡ map (held_at tried.portfolios) places
+      → map arc_value befores.rows.items ≡ rows_of_accounts set portfolios → AreBefores set tried befores
+  befores_are tried places portfolios befores every slots held are =
+      let at : (i : ℕ) → i < length tried.orders → AreAt set (map arc_value befores.rows.items)
+      (slice_index_or befores.slots.items i 0) (order_at tried i).before.holdings = λ i lt.
+      rw (are) (rows_at portfolios _ _ (rw (held) (slots i (omega (arith, lt, every))))) in
+      let count = length-map befores.rows.items arc_value in
       record {
         every = every;
-        in_range = λ i lt. (at i lt).in_range;
+        in_range = λ i lt. omega (arith, count, (at i lt).in_range);
         each = λ i lt. (at i lt).each;
       }

@@ -5,7 +5,7 @@ use Rattle.span_money.specs.LineFields.{line}
 use Rattle.span_tables.specs.Tables.{AcceptedTables}
 use Rattle.binding.specs.OrderBinding.{TriedOrder}
 use Rattle.whatif.specs.Whatif.{change_line, changed_by, changes}
-use Rattle.whatif.specs.near.Numbers.{change_text}
+use Rattle.whatif.specs.near.Trials.{change_text}
 use Rattle.whatif.proofs.TextLemmas.{flat_map-filter}
 
 -- the lines of all commodities are the lines of the commodities that change

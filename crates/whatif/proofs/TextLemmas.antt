@@ -1,7 +1,7 @@
 -- Texts that are written one after another, and lists whose elements are related.
 use Rattle.std.proofs.Common.{◌≡◌, ◌∙◌, ℕ, zero, suc, ◌+◌, ◌<◌, Bool, true, false, cond, List, [], ◌∷◌, ◌++◌, flat_map, filter}
 use Rattle.std.proofs.Common.{length, drop, get_or, refl, sym, ap, arith, append_assoc}
-use Rattle.std.specs.List.{AllZip, range_with_len}
+use Rattle.std.specs.List.{range_with_len}
 use Rattle.std.proofs.lemmas.List.Concat.{flat_map-cons}
 use Rattle.std.proofs.lemmas.List.{append-nil, drop_more, length-drop}
 use Rattle.std.proofs.lemmas.Grind.{flat_map-append}
@@ -62,19 +62,3 @@ module _ {X : Type 0} (f : X → List ℕ) (d : X) where
 
         both : (get_or all n d ≡ x) × (drop (n + 1) all ≡ xs)
         both = parts (get_or all n d) (drop (n + 1) all) (sym (drop_more all n d in_range) ∙ from)
-
--- appending a related element to each list keeps all elements related
-pub AllZip-last : {A B : Type 0} (R : A → B → Type 0) (xs : List A) (ys : List B) (x : A) (y : B) → AllZip R xs ys → R x y
-    → AllZip R (xs ++ x ∷ []) (ys ++ y ∷ [])
-AllZip-last R [] [] x y all last = (last, tt)
-AllZip-last R [] (z ∷ ys) x y all last = absurd all
-AllZip-last R (z ∷ xs) [] x y all last = absurd all
-AllZip-last R (z ∷ xs) (w ∷ ys) x y all last = (all.0, AllZip-last R xs ys x y all.1 last)
-
--- two lists after two others whose elements are related
-pub AllZip-append : {A B : Type 0} (R : A → B → Type 0) (xs ys : List A) (us vs : List B) → AllZip R xs us → AllZip R ys vs
-    → AllZip R (xs ++ ys) (us ++ vs)
-AllZip-append R [] ys [] vs first rest = rest
-AllZip-append R [] ys (u ∷ us) vs first rest = absurd first
-AllZip-append R (x ∷ xs) ys [] vs first rest = absurd first
-AllZip-append R (x ∷ xs) ys (u ∷ us) vs first rest = (first.0, AllZip-append R xs ys us vs first.1 rest)

@@ -1,8 +1,7 @@
 //! Orders in batches, each evaluated on its account (docs/FORMATS.md, "Evaluated orders").
 ghost use Rattle.std.specs.Arc.{arc_value};
-ghost use Rattle.std.specs.Prelude.{◌≡◌, ◌++◌, ◌+◌, ◌-◌, ◌≤◌, IfOk, OnOk, drop, length, map, take};
+ghost use Rattle.std.specs.Prelude.{◌≡◌, ◌++◌, ◌-◌, ◌≤◌, IfOk, OnOk, length};
 ghost use Rattle.worker_pool.specs.Batches.{AllFit};
-ghost use Rattle.worker_teams.specs.near.OutcomeRows.{rows_of_accounts};
 ghost use Rattle.whatif.specs.Whatif.{whatif_text};
 ghost use Rattle.whatif.specs.near.Befores.{AreBefores};
 ghost use Rattle.whatif.specs.near.Orders.{OrdersFit, orders_text};
@@ -11,40 +10,11 @@ use crate::befores::{Befores, befores_of};
 use crate::lines::Trial;
 use crate::margining::{BatchMeans, MOST_AT_ONCE, rows_of};
 use binding::orders::Orders;
-use plan_compiler::set::CompiledSet;
 use std::alloc::{AllocError, Global};
-use std::sync::{Arc, Wait};
+use std::sync::Wait;
 use std::thread::Threads;
 use std::time::Clock;
-use step_scheduler::rows::Row;
 use worker_pool::gates::Gate;
-
-// Appends the lines of a range of orders, from the rows after them.
-fn push_orders(
-    out: &mut Vec<u8>,
-    set: &Arc<CompiledSet>,
-    orders: &Orders,
-    befores: &Befores,
-    first: usize,
-    end: usize,
-    rows: &[Arc<Row>],
-) -> Result<(), AllocError>
-    requires first { first ≤ end }
-    requires end { end ≤ length orders.now.orders }
-    requires befores { AreBefores (arc_value set.now).tables orders.now befores.now }
-    requires rows { map arc_value rows.now
-        ≡ rows_of_accounts (arc_value set.now) (map (λ o. o.after) (take (end - first) (drop first orders.now.orders))) }
-    ensures { OnOk result (out.new.items
-        ≡ out.old.items ++ orders_text (arc_value set.now).tables orders.now first (end - first)) }
-{
-    let tables = set.tables();
-    for order in first..end {
-        let name = orders.name(order);
-        let before = befores.at(order);
-        Trial::new(tables, name, before, &rows[order - first]).push_to(out)?;
-    }
-    Ok(())
-}
 
 // Appends the lines of a range of orders, whose accounts are margined with them in one batch.
 fn push_batch<R: Threads + Wait + Clock + Sync, G: Gate>(
@@ -58,17 +28,22 @@ fn push_batch<R: Threads + Wait + Clock + Sync, G: Gate>(
     requires first { first ≤ end }
     requires end { end ≤ length orders.now.orders }
     requires fits { OrdersFit (arc_value lent.now.set.now) orders.now }
-    requires befores { AreBefores (arc_value lent.now.set.now).tables orders.now befores.now }
+    requires befores { AreBefores (arc_value lent.now.set.now) orders.now befores.now }
     ensures { OnOk result (out.new.items
         ≡ out.old.items ++ orders_text (arc_value lent.now.set.now).tables orders.now first (end - first)) }
 {
     let portfolios = orders.portfolios_with(lent.alloc, first, end - first)?;
     let rows = rows_of(lent, portfolios)?;
-    push_orders(out, lent.set, orders, befores, first, end, &rows)
+    for order in first..end {
+        let name = orders.name(order);
+        let before = befores.at(order);
+        Trial::new(name, before, &rows[order - first]).push_to(out)?;
+    }
+    Ok(())
 }
 
 /// Returns the lines of all orders, in their order. In addition to the text and the orders, memory is needed only for
-/// the rows of one batch and for the accounts' numbers before the orders.
+/// the rows of one batch and for the rows of the accounts before the orders.
 pub(crate) fn text_of<R: Threads + Wait + Clock + Sync, G: Gate>(
     lent: &BatchMeans<'_, R, G>,
     orders: &Orders,

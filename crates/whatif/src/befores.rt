@@ -2,36 +2,36 @@
 ghost use Rattle.std.specs.Arc.{arc_value};
 ghost use Rattle.std.specs.Prelude.{◌≡◌, ◌<◌, IfOk, OnOk, Some, length, map, slice_get, slice_index_or};
 ghost use Rattle.worker_pool.specs.Batches.{AllFit};
-ghost use Rattle.whatif.specs.near.Befores.{AreBefores, AreKept, AreNumbersAt, AreSlots, HasSlot, held_at};
-ghost use Rattle.whatif.specs.near.Numbers.{order_at};
+ghost use Rattle.whatif.specs.near.Befores.{AreBefores, AreKept, AreSlots, HasSlot, held_at};
+ghost use Rattle.whatif.specs.near.Orders.{order_at};
 
-use crate::margining::{BatchMeans, MOST_AT_ONCE, rows_of};
-use crate::numbers::{Numbers, all_numbers};
+use crate::margining::{BatchMeans, rows_of};
 use binding::orders::Orders;
 use indexmap::IndexSet;
 use span_tables::name::Name;
 use span_tables::portfolios::{Portfolio, copied};
 use std::alloc::{AllocError, Global};
-use std::sync::Wait;
+use std::sync::{Arc, Wait};
 use std::thread::Threads;
 use std::time::Clock;
+use step_scheduler::rows::Row;
 use worker_pool::gates::Gate;
 
-/// The numbers of the accounts before their orders, each account's once, and for each order its slot among them.
+/// The rows of the accounts before their orders, each account's once, and for each order its slot among them.
 #[derive(Drop)]
 pub(crate) struct Befores {
-    pub(crate) numbers: Vec<Numbers>,
+    pub(crate) rows: Vec<Arc<Row>>,
     pub(crate) slots: Vec<usize>,
 }
 
 impl Befores {
-    /// Returns the numbers of an order's account before the order.
-    pub(crate) fn at(&self, order: usize) -> &Numbers
+    /// Returns the row of an order's account before the order.
+    pub(crate) fn at(&self, order: usize) -> &Row
         requires order { order < length self.now.slots.items }
-        requires slot { slice_index_or self.now.slots.items order 0 < length self.now.numbers.items }
-        ensures { slice_get self.now.numbers.items (slice_index_or self.now.slots.items order 0) ≡ Some result.now }
+        requires slot { slice_index_or self.now.slots.items order 0 < length self.now.rows.items }
+        ensures { slice_get (map arc_value self.now.rows.items) (slice_index_or self.now.slots.items order 0) ≡ Some result.now }
     {
-        &self.numbers[self.slots[order]]
+        &self.rows[self.slots[order]]
     }
 }
 
@@ -96,38 +96,6 @@ fn portfolios_at(
     Ok(some)
 }
 
-// Returns the numbers of the portfolios at these places, which are margined in one batch, and drops their rows.
-fn margined<R: Threads + Wait + Clock + Sync, G: Gate>(
-    lent: &BatchMeans<'_, R, G>,
-    all: &[Portfolio],
-    places: &[Option<usize>],
-) -> Result<Vec<Numbers>, AllocError>
-    requires { AllFit (arc_value lent.now.set.now) all.now }
-    ensures { IfOk result (λ numbers. AreNumbersAt (arc_value lent.now.set.now).tables all.now places.now numbers.items) }
-{
-    let rows = rows_of(lent, portfolios_at(lent.alloc, all, places)?)?;
-    all_numbers(lent.alloc, &rows)
-}
-
-// Returns the numbers of the portfolios at these places, which are margined in batches.
-fn all_margined<R: Threads + Wait + Clock + Sync, G: Gate>(
-    lent: &BatchMeans<'_, R, G>,
-    all: &[Portfolio],
-    places: &[Option<usize>],
-) -> Result<Vec<Numbers>, AllocError>
-    requires { AllFit (arc_value lent.now.set.now) all.now }
-    ensures { IfOk result (λ numbers. AreNumbersAt (arc_value lent.now.set.now).tables all.now places.now numbers.items) }
-{
-    let mut numbers = Vec::with_capacity(lent.alloc, places.len())?;
-    let mut left = places;
-    while !left.is_empty() {
-        let (now, later) = left.split_at(left.len().min(MOST_AT_ONCE));
-        numbers.append(&mut margined(lent, all, now)?)?;
-        left = later;
-    }
-    Ok(numbers)
-}
-
 /// Returns the margins of the accounts before their orders. Each portfolio on which an order is evaluated is margined
 /// once.
 pub(crate) fn befores_of<R: Threads + Wait + Clock + Sync, G: Gate>(
@@ -135,10 +103,11 @@ pub(crate) fn befores_of<R: Threads + Wait + Clock + Sync, G: Gate>(
     orders: &Orders,
 ) -> Result<Befores, AllocError>
     requires { AllFit (arc_value lent.now.set.now) orders.now.portfolios }
-    ensures { IfOk result (AreBefores (arc_value lent.now.set.now).tables orders.now) }
+    ensures { IfOk result (AreBefores (arc_value lent.now.set.now) orders.now) }
 {
     let mut places = IndexSet::new(lent.alloc);
     let slots = slots_of(lent.alloc, &mut places, orders)?;
-    let numbers = all_margined(lent, orders.portfolios(), places.as_slice())?;
-    Ok(Befores { numbers, slots })
+    let portfolios = portfolios_at(lent.alloc, orders.portfolios(), places.as_slice())?;
+    let rows = rows_of(lent, portfolios)?;
+    Ok(Befores { rows, slots })
 }

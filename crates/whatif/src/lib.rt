@@ -7,6 +7,5 @@ mod befores;
 pub mod laws;
 pub mod lines;
 mod margining;
-pub mod numbers;
 pub mod trying;
 mod worked;

@@ -4,10 +4,8 @@ ghost use Rattle.binding.specs.OrderBinding.{TriedOrder};
 ghost use Rattle.inter_credit.specs.OptionValue.{due_of};
 ghost use Rattle.span_money.specs.LineFields.{line};
 ghost use Rattle.whatif.specs.Whatif.{change_line, change_of, changed_by, due_at, order_line, order_text};
-ghost use Rattle.whatif.specs.near.Numbers.{change_text};
-ghost use Rattle.whatif.specs.near.Trials.{IsTried};
+ghost use Rattle.whatif.specs.near.Trials.{IsTried, change_text};
 
-use crate::numbers::Numbers;
 use span_money::amounts::Money;
 use span_money::line_fields::{Field, push_line_of_numbers};
 use span_tables::name::Name;
@@ -17,26 +15,28 @@ use std::alloc::AllocError;
 use std::marker::Model;
 use step_scheduler::rows::Row;
 
-/// An order that is evaluated: its name, the numbers of its account before it, and the row after it.
+/// An order that is evaluated: its name, and the rows of its account before it and after it.
 #[derive(Drop)]
 pub struct Trial<'a> {
-    tables: &'a Tables,
     order: &'a Name,
-    before: &'a Numbers,
-    row: &'a Row,
+    before: &'a Row,
+    after: &'a Row,
 }
 
 impl<'a> Model for Trial<'a> {
-    ghost use Rattle.std.specs.Prelude.{◌≡◌, length};
+    ghost use Rattle.std.specs.Prelude.{◌≡◌};
     ghost use Rattle.whatif.specs.near.Trials.{TrialView};
 
     ghost Value = { TrialView };
 
-    ghost view = { λ t.
-        record { tables = t.tables.now; order = t.order.now; before = t.before.now; after = t.row.now.portfolio } };
+    ghost view = { λ t. record {
+      tables = t.after.now.set.tables;
+      order = t.order.now;
+      before = t.before.now.portfolio;
+      after = t.after.now.portfolio;
+    } };
 
-    ghost invariant = { λ t. (t.row.now.set.tables ≡ t.tables.now)
-        × (length t.before.now.requirements.items ≡ length t.tables.now.commodities) };
+    ghost invariant = { λ t. t.before.now.set.tables ≡ t.after.now.set.tables };
 }
 
 // Returns the fields of a line for an amount: before, after, and after minus before.
@@ -49,22 +49,29 @@ fn change_of(before: Money, after: Money) -> [i128; 3]
 }
 
 impl<'a> Trial<'a> {
-    /// Creates the evaluation of the order of a name, from the numbers of its account before it and the row after it.
-    pub fn new(tables: &'a Tables, order: &'a Name, before: &'a Numbers, row: &'a Row) -> Trial<'a>
-        requires { (row.now.set.tables ≡ tables.now) × (length before.now.requirements.items ≡ length tables.now.commodities) }
+    /// Creates the evaluation of the order of a name, from the rows of its account before it and after it. Both rows are
+    /// under one parameter set.
+    pub fn new(order: &'a Name, before: &'a Row, after: &'a Row) -> Trial<'a>
+        requires { before.now.set.tables ≡ after.now.set.tables }
         ensures { result ≡ record {
-          tables = tables.now;
+          tables = after.now.set.tables;
           order = order.now;
-          before = before.now;
-          after = row.now.portfolio;
+          before = before.now.portfolio;
+          after = after.now.portfolio;
         } }
     {
         Trial {
-            tables,
             order,
             before,
-            row,
+            after,
         }
+    }
+
+    // Returns the tables of the parameter set.
+    fn tables(&self) -> &Tables
+        ensures { result.now ≡ self.now.tables }
+    {
+        self.after.set().tables()
     }
 
     // Appends the line of the commodity of a number, if the order changes its requirement.
@@ -74,16 +81,16 @@ impl<'a> Trial<'a> {
         ensures { (o : TriedOrder) → IsTried self.now o
             → OnOk result (out.new.items ≡ out.old.items ++ change_text self.now.tables o commodity) }
     {
-        let before = self.before.requirements[commodity];
-        let after = self.row.figures(commodity).requirement;
+        let before = self.before.figures(commodity).requirement;
+        let after = self.after.figures(commodity).requirement;
         if before.get() == after.get() {
             return Ok(());
         }
         let ids = [
             Field::Bytes(self.order.as_bytes()),
-            Field::Bytes(self.row.account().as_bytes()),
-            Field::Bytes(self.tables.set_id().as_bytes()),
-            Field::Bytes(self.tables.commodities()[commodity].id.as_bytes()),
+            Field::Bytes(self.after.account().as_bytes()),
+            Field::Bytes(self.tables().set_id().as_bytes()),
+            Field::Bytes(self.tables().commodities()[commodity].id.as_bytes()),
         ];
         push_line_of_numbers(out, "CHANGE", &ids, &change_of(before, after))
     }
@@ -93,7 +100,7 @@ impl<'a> Trial<'a> {
         ensures { (o : TriedOrder) → IsTried self.now o → OnOk result (out.new.items ≡ out.old.items
             ++ flat_map (λ c. line (change_line self.now.tables o c)) (changed_by self.now.tables o)) }
     {
-        for commodity in 0..self.tables.commodities().len() {
+        for commodity in 0..self.tables().commodities().len() {
             self.push_change(out, commodity)?;
         }
         Ok(())
@@ -105,8 +112,8 @@ impl<'a> Trial<'a> {
         ensures { (o : TriedOrder) → IsTried self.now o
             → result ≡ change_of (due_at self.now.tables o.before) (due_at self.now.tables o.after) }
     {
-        let before = due(self.before.total, self.before.value);
-        let after = due(self.row.total(), self.row.value());
+        let before = due(self.before.total(), self.before.value());
+        let after = due(self.after.total(), self.after.value());
         [before, after, after - before]
     }
 
@@ -119,11 +126,11 @@ impl<'a> Trial<'a> {
     {
         let ids = [
             Field::Bytes(self.order.as_bytes()),
-            Field::Bytes(self.row.account().as_bytes()),
-            Field::Bytes(self.tables.set_id().as_bytes()),
+            Field::Bytes(self.after.account().as_bytes()),
+            Field::Bytes(self.tables().set_id().as_bytes()),
         ];
-        let [before, after, change] = change_of(self.before.total, self.row.total());
-        if !self.tables.facts().options_have_value {
+        let [before, after, change] = change_of(self.before.total(), self.after.total());
+        if !self.tables().facts().options_have_value {
             return push_line_of_numbers(out, "ORDER", &ids, &[before, after, change]);
         }
         let [due_before, due_after, change_of_due] = self.change_of_due();
@@ -131,7 +138,7 @@ impl<'a> Trial<'a> {
         push_line_of_numbers(out, "ORDER", &ids, &numbers)
     }
 
-    /// Appends the lines of an order with this name, these numbers of its account before it, and this portfolio after it.
+    /// Appends the lines of the order.
     #[tactic(auto, unfolding(crate::specs::Whatif::order_text))]
     pub fn push_to(&self, out: &mut Vec<u8>) -> Result<(), AllocError>
         ensures { (o : TriedOrder) → IsTried self.now o

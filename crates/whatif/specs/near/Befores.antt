@@ -1,13 +1,13 @@
 -- What each account holds before its order, among places of portfolios without repeats.
 use Rattle.std.specs.Prelude.{◌≡◌, ◌<◌, ℕ, List, [], ◌++◌, Option, Some, None, length, map, option_and_then, slice_get, slice_index_or}
-use Rattle.std.specs.List.{AllZip}
+use Rattle.std.specs.Arc.{arc_value}
 use Rattle.span_tables.specs.Net.{AccountHoldings}
-use Rattle.span_tables.specs.Tables.{AcceptedTables}
 use Rattle.span_tables.specs.declared.portfolios.Holding.{Holding}
 use Rattle.binding.specs.OrderBinding.{TriedOrders}
-use Rattle.whatif.specs.near.Numbers.{AreNumbers, order_at}
+use Rattle.plan_compiler.specs.Compiled.{SetView}
+use Rattle.step_scheduler.specs.Rows.{RowView}
+use Rattle.whatif.specs.near.Orders.{order_at}
 use Rattle.whatif.specs.declared.befores.Befores.{Befores}
-use Rattle.whatif.specs.declared.numbers.Numbers.{Numbers}
 
 -- what a portfolio holds, or nothing if there is none
 abbrev pub held_by : Option AccountHoldings → List Holding
@@ -32,15 +32,15 @@ pub record AreKept (before after : List (Option ℕ)) : Type 0 where
   pub more : List (Option ℕ)
   pub kept : after ≡ before ++ more
 
--- each place has the numbers of what is held there
-abbrev pub AreNumbersAt : AcceptedTables → List AccountHoldings → List (Option ℕ) → List Numbers → Type 0
-AreNumbersAt t all places numbers = AllZip (AreNumbers t) (map (held_at all) places) numbers
+-- the row is under the parameter set, and its portfolio has these holdings
+pub record IsRowOf (set : SetView) (holdings : List Holding) (r : RowView) : Type 0 where
+  pub set_is : r.set ≡ set
+  pub holds : r.portfolio.holdings ≡ holdings
 
--- each order has the numbers of what its account holds before the order
-pub record AreBefores (t : AcceptedTables) (tried : TriedOrders) (befores : Befores) : Type 0 where
+-- each order has the row of what its account holds before the order
+pub record AreBefores (set : SetView) (tried : TriedOrders) (befores : Befores) : Type 0 where
   pub every : length befores.slots.items ≡ length tried.orders
-  pub in_range : (i : ℕ) → i < length tried.orders
-      → slice_index_or befores.slots.items i 0 < length befores.numbers.items
-  pub each : (i : ℕ) → i < length tried.orders → (numbers : Numbers)
-      → slice_get befores.numbers.items (slice_index_or befores.slots.items i 0) ≡ Some numbers
-      → AreNumbers t (order_at tried i).before.holdings numbers
+  pub in_range : (i : ℕ) → i < length tried.orders → slice_index_or befores.slots.items i 0 < length befores.rows.items
+  pub each : (i : ℕ) → i < length tried.orders → (r : RowView)
+      → slice_get (map arc_value befores.rows.items) (slice_index_or befores.slots.items i 0) ≡ Some r
+      → IsRowOf set (order_at tried i).before.holdings r

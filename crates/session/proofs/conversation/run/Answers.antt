@@ -8,8 +8,7 @@ use Rattle.desks.specs.contracts.desk.Taken.{the_type}
 use Rattle.desks.specs.declared.desk.DeskFault.TheVariants as desk
 use Rattle.desks.specs.declared.desk.Taken.{Taken}
 use Rattle.desks.specs.declared.desk.Taken.TheVariants as taken
-use Rattle.session.specs.Conversations.{Turn, log_of}
-use Rattle.session.proofs.ConversationLemmas.{logs_asked, logs_more, logs_same, no_turns, one_more_turn, state_behind_more}
+use Rattle.session.proofs.ConversationLemmas.{logs_asked, logs_more, no_turns, one_more_turn, state_behind_more}
 use Rattle.session.proofs.conversation.run.Goals as goal
 
 -- the desk handed over a request, since it was not the end of the requests

@@ -1,7 +1,7 @@
 use Rattle.std.proofs.Common.{◌≡◌, ◌∙◌, ℕ, ◌∷◌, [], ap, arith, length, subst, sym}
 use Rattle.std.proofs.lemmas.List.{length-append}
 use Rattle.whatif.specs.near.Befores.{AreSlots, HasSlot}
-use Rattle.whatif.specs.near.Numbers.{order_at}
+use Rattle.whatif.specs.near.Orders.{order_at}
 use Rattle.whatif.proofs.BeforeLemmas.{slots_more}
 use Rattle.whatif.proofs.befores.slots_of.Goals as goal
 

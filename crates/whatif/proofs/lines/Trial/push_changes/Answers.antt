@@ -1,7 +1,7 @@
 use Rattle.std.proofs.Common.{◌≡◌, ◌∙◌, ◌++◌, ap, arith, flat_map, length}
 use Rattle.std.specs.List.{range_with_len}
 use Rattle.span_money.proofs.LinePartLemmas.{numbered_more}
-use Rattle.whatif.specs.near.Numbers.{change_text}
+use Rattle.whatif.specs.near.Trials.{change_text}
 use Rattle.whatif.proofs.OrderLineLemmas.{all_changes}
 use Rattle.whatif.proofs.lines.Trial.push_changes.Goals as goal
 
@@ -15,7 +15,7 @@ pub returns : goal.returns
 returns c = λ o is.
     let t = c.args.self.now.tables in
     let count : length c.commodities-commodity-end.result.now ≡ length t.commodities =
-    ap length c.commodities-commodity-end.ensures.value ∙ ap (λ v. length v.tables.commodities) c.self.view_is in
+    ap length c.commodities-commodity-end.ensures.value ∙ ap (λ t. length t.commodities) c.tables.ensures in
     let all : c.loop-commodity.commodity ≡ length t.commodities =
     omega (arith, c.loop-commodity-test.false, c.loop-commodity.auto.commodity-end, count) in
     c.loop-commodity.invariant o is ∙ ap (λ n. c.args.out.now.items ++ flat_map (change_text t o) (range_with_len 0 n)) all

@@ -1,7 +1,7 @@
 use Rattle.std.proofs.Common.{◌≡◌, ◌++◌, flat_map}
 use Rattle.std.specs.List.{range_with_len}
 use Rattle.binding.specs.OrderBinding.{TriedOrder}
-use Rattle.whatif.specs.near.Numbers.{change_text}
+use Rattle.whatif.specs.near.Trials.{change_text}
 use Rattle.whatif.specs.near.Trials.{IsTried}
 use Rattle.whatif.proofs.lines.Trial.push_changes.Given as goal
 
