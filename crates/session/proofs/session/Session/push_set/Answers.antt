@@ -26,6 +26,11 @@ returns-in_err-accounts-clause-answer c =
     (ap (λ (z : State). z.accounts) c.self.view_is)
     c.in_err-accounts.ensures.lost)
 
+pub returns-in_err-push_counts-clause-answer : goal.returns-in_err-push_counts-clause-answer
+returns-in_err-push_counts-clause-answer c =
+    let p = err_from_is_err_and c.from_residual-in_err-push_counts.result c.from_residual-in_err-push_counts.ensures.1 in
+    rw (p.1 ∙ ap Err p.2) tt
+
 pub returns-clause-fits : goal.returns-clause-fits
 returns-clause-fits c =
     let old = c.tables-old.result.now.contracts in
