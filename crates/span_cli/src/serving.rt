@@ -177,6 +177,16 @@ fn rolled<R: Threads + Wait + Clock + Sync, G: Gate>(
     )
 }
 
+// The size of a large block, in bytes. GNU malloc learns from blocks of up to 32 MiB.
+const LARGE: usize = 31 << 20;
+
+// Allocates a large block and frees it unused. From then on GNU malloc serves blocks of up to this size from memory that
+// was freed, and not from pages that the system has to clear first (docs/DECISIONS.md). If there is no memory for the
+// block, nothing changes.
+fn prefer_freed_memory(alloc: Global) {
+    let _block: Result<Vec<u8>, AllocError> = Vec::with_capacity(alloc, LARGE);
+}
+
 // The answer to a command, from the bytes of its files.
 fn answer<R: Threads + Wait + Clock + Sync, G: Gate>(
     lent: &ServingMeans<'_, R, G>,
@@ -191,6 +201,9 @@ fn answer<R: Threads + Wait + Clock + Sync, G: Gate>(
         (Command::Check, [params]) => Ok(done(check_plain(alloc, params)?)),
         (Command::Plan, [params]) => Ok(done(plan_plain(alloc, params)?)),
         (Command::Margin(workers), [params, positions]) => {
+            if *workers == 1 {
+                prefer_freed_memory(alloc);
+            }
             let text = margin(rt, alloc, params, positions, *workers, gate)?;
             Ok(done(text))
         }
