@@ -1,7 +1,6 @@
 -- The holdings and the accounts that are carried over to another parameter set, one after the other.
 use Rattle.std.proofs.Common.{◌≡◌, ◌∙◌, ℕ, suc, ◌+◌, ◌<◌, ◌≤◌, Bool, true, false, cond, not, List, [], ◌∷◌, ◌++◌}
-use Rattle.std.proofs.Common.{length, map, flat_map, get_or, take, drop, Option, Some, None, refl, sym, ap, subst, arith}
-use Rattle.std.proofs.Common.{append_assoc}
+use Rattle.std.proofs.Common.{length, map, flat_map, get_or, take, drop, Option, Some, None, refl, sym, ap, append_assoc, subst, arith}
 use Rattle.std.specs.Prelude.{⊤, All, MatchBool, bytes_eq, filter_map, find, is_some, option_map}
 use Rattle.std.specs.List.{IsDistinct, cons_option, list_any}
 use Rattle.std.specs.Option.{option_or}

@@ -15,8 +15,7 @@ use Rattle.session.specs.Conversations.{AreFromSource, HasFileAsked, IsFromSourc
 use Rattle.session.specs.Conversations.{file_in, file_of, files_of, given, refused_line, request_on, state_after}
 use Rattle.session.specs.Refusals.{Refused, refused_by}
 use Rattle.session.specs.Refusals as refused
-use Rattle.session.specs.Requests.{Asked, request_of}
-use Rattle.session.specs.Requests.{is_memory as is_memory_fault}
+use Rattle.session.specs.Requests.{Asked, is_memory as is_memory_fault, request_of}
 use Rattle.session.specs.declared.faults.RequestFault.{RequestFault}
 use Rattle.session.specs.declared.faults.RequestFault.TheVariants as form
 use Rattle.session.specs.declared.refusals.Refusal.{Refusal}

@@ -1,8 +1,7 @@
 -- The request that a line of a session makes, or why the line is rejected.
-use Rattle.std.specs.Prelude.{◌<◌, ◌≤◌, ⊤, All}
 use Rattle.std.specs.Prelude.{ℕ, ◌+◌, ◌-◌, ◌*◌, ◌%◌, Bool, not, ◌&&◌, ◌||◌, ◌==◌, nat_le, nat_lt, if◌then◌else◌, false, true}
 use Rattle.std.specs.Prelude.{List, [], ◌∷◌, drop, length, map, find, codes, bytes_eq, ℤ, pos, nat_abs}
-use Rattle.std.specs.Prelude.{Option, Some, None, is_some, option_map, unwrap_or, Result, Ok, Err}
+use Rattle.std.specs.Prelude.{◌<◌, ◌≤◌, ⊤, All, Option, Some, None, is_some, option_map, unwrap_or, Result, Ok, Err}
 use Rattle.std.specs.Borrow.{Bor}
 use Rattle.std.specs.List.{enumerate_from, slice_split}
 use Rattle.std.specs.Str.{is_utf8}

@@ -27,10 +27,8 @@ use Rattle.span_cli.specs.Words.{asked_in, is_request, request_in}
 use Rattle.statement_text.specs.declared.statuses.TheConstants.{DONE, FILE_FAILED, OUT_OF_MEMORY}
 use Rattle.span_cli.specs.Telling as telling
 use Rattle.span_cli.specs.near.Refusals.{Loads, MayGive, Opens, TellsSome, given_answer, read_then, refusal_answer}
-use Rattle.span_cli.specs.near.Refusals.{refusal_line, refusal_status}
 use Rattle.span_cli.specs.near.Sessions.{TellsSession, texts_from}
 use Rattle.span_cli.specs.declared.requests.Command.{Command}
-use Rattle.span_cli.specs.declared.serving.Given.{Given}
 use Rattle.span_cli.specs.declared.serving.Refusal.{Refusal}
 use Rattle.span_cli.specs.declared.serving.Refusal.TheVariants as refusal
 use Rattle.span_cli.specs.declared.requests.Service.{Service}

@@ -177,14 +177,11 @@ fn rolled<R: Threads + Wait + Clock + Sync, G: Gate>(
     )
 }
 
-// The size of a large block, in bytes. GNU malloc learns from blocks of up to 32 MiB.
-const LARGE: usize = 31 << 20;
-
-// Allocates a large block and frees it unused. From then on GNU malloc serves blocks of up to this size from memory that
-// was freed, and not from pages that the system has to clear first (docs/DECISIONS.md). If there is no memory for the
-// block, nothing changes.
+// Allocates a block of 31 MiB and frees it unused. From then on GNU malloc serves blocks of up to this size from memory that
+// was freed, and not from pages that the system has to clear first (docs/DECISIONS.md). It learns so from blocks of at most
+// 32 MiB. If there is no memory for the block, nothing changes.
 fn prefer_freed_memory(alloc: Global) {
-    let _block: Result<Vec<u8>, AllocError> = Vec::with_capacity(alloc, LARGE);
+    let _block: Result<Vec<u8>, AllocError> = Vec::with_capacity(alloc, 31 << 20);
 }
 
 // The answer to a command, from the bytes of its files.

@@ -12,8 +12,7 @@ use Rattle.plan_compiler.specs.Compiled.{SetView}
 use Rattle.step_scheduler.specs.Rows.{RowView}
 use Rattle.worker_teams.specs.near.OutcomeRows.{rows_of_accounts}
 use Rattle.whatif.specs.Whatif.{order_text, whatif_text}
-use Rattle.whatif.specs.near.Orders.{no_order, order_at}
-use Rattle.whatif.specs.near.Orders.{orders_text}
+use Rattle.whatif.specs.near.Orders.{no_order, order_at, orders_text}
 use Rattle.whatif.proofs.TextLemmas.{by_number}
 
 -- the orders of a batch

@@ -1,4 +1,4 @@
--- The lines of an order, from the numbers before it and the row after it.
+-- The lines of the commodities whose requirement an order changes.
 use Rattle.std.proofs.Common.{◌≡◌, flat_map, length, sym}
 use Rattle.std.specs.List.{range_with_len}
 use Rattle.span_money.specs.LineFields.{line}

@@ -1,4 +1,4 @@
--- Texts that are written one after another, and lists whose elements are related.
+-- Texts that are written one after another.
 use Rattle.std.proofs.Common.{◌≡◌, ◌∙◌, ℕ, zero, suc, ◌+◌, ◌<◌, Bool, true, false, cond, List, [], ◌∷◌, ◌++◌, flat_map, filter}
 use Rattle.std.proofs.Common.{length, drop, get_or, refl, sym, ap, arith, append_assoc}
 use Rattle.std.specs.List.{range_with_len}

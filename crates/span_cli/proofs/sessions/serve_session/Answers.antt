@@ -1,7 +1,6 @@
 use Rattle.std.proofs.Common.{◌≡◌, ◌∙◌, [], List, ap, refl, rules}
 use Rattle.desks.specs.Desks.{Deals, DealsAt, dealing}
 use Rattle.desks.specs.Events.{Event, Logs}
-use Rattle.desks.specs.declared.intake.Requests.{Requests}
 use Rattle.desks.proofs.DealingLemmas.{nothing_dealt}
 use Rattle.span_cli.proofs.SessionLemmas.{serves_session, some_logged}
 use Rattle.span_cli.proofs.sessions.serve_session.Goals as goal

@@ -1,8 +1,7 @@
 use Rattle.std.proofs.Common.{◌≡◌, ◌∙◌, ◌+◌, ◌-◌, ◌≤◌, ◌++◌, [], ℕ, List, ap, arith, length}
 use Rattle.std.specs.Arc.{arc_value}
 use Rattle.whatif.specs.Whatif.{order_text}
-use Rattle.whatif.specs.near.Orders.{order_at}
-use Rattle.whatif.specs.near.Orders.{orders_text}
+use Rattle.whatif.specs.near.Orders.{order_at, orders_text}
 use Rattle.whatif.proofs.BatchLemmas.{all_orders}
 use Rattle.whatif.proofs.TextLemmas.{written_more}
 use Rattle.whatif.proofs.batches.text_of.Goals as goal

@@ -1,8 +1,7 @@
 use Rattle.std.proofs.Common.{◌≡◌, ◌++◌, flat_map}
 use Rattle.std.specs.List.{range_with_len}
 use Rattle.binding.specs.OrderBinding.{TriedOrder}
-use Rattle.whatif.specs.near.Trials.{change_text}
-use Rattle.whatif.specs.near.Trials.{IsTried}
+use Rattle.whatif.specs.near.Trials.{IsTried, change_text}
 use Rattle.whatif.proofs.lines.Trial.push_changes.Given as goal
 
 abbrev pub invariant-loop-commodity : goal.invariant-loop-commodity
