@@ -64,14 +64,14 @@ pub(crate) enum Change {
     /// The portfolio replaces the holdings of its account.
     Account(Portfolio),
     /// There is another parameter set, under which these are the accounts.
-    Set(SetInUse, Accounts),
+    Set(Box<SetInUse>, Accounts),
 }
 
 /// A session: an accepted parameter set, and accounts with their holdings, in their order. Contracts see both.
 #[derive(Drop)]
 pub struct Session {
     alloc: Global,
-    set: SetInUse,
+    set: Box<SetInUse>,
     accounts: Accounts,
 }
 
@@ -82,9 +82,9 @@ impl Model for Session {
 
     ghost Value = { State };
 
-    ghost view = { λ s. state_of s.set s.accounts };
+    ghost view = { λ s. state_of s.set.value s.accounts };
 
-    ghost invariant = { λ s. AllFit s.set s.accounts };
+    ghost invariant = { λ s. AllFit s.set.value s.accounts };
 }
 
 /// An open session, and its first answer, which is the answer to request 0.
@@ -207,7 +207,7 @@ impl Session {
     {
         let accounts = Accounts::new(alloc, portfolios)?;
         let set = SetInUse::new(alloc, set)?;
-        let text = opening(alloc, &set)?;
+        let text = opening(alloc, &*set)?;
         let session = Session {
             alloc,
             set,
@@ -253,9 +253,11 @@ impl Session {
     {
         let set = set_read(self.alloc, name, read)?;
         let set = SetInUse::new(self.alloc, set)?;
-        let (old, new) = (self.set.tables(), set.tables());
-        let accounts = self.accounts.under_set(self.alloc, old, new)?;
-        push_counts(self.alloc, out, &set)?;
+        let (old, new) = (&*self.set, &*set);
+        let accounts = self
+            .accounts
+            .under_set(self.alloc, old.tables(), new.tables())?;
+        push_counts(self.alloc, out, new)?;
         Ok(Change::Set(set, accounts))
     }
 
@@ -277,7 +279,7 @@ impl Session {
             (answer_to self.old (file_given (λ v. v.items) file) (asked_by request.entry)) }
         ensures fits { IfOk result (ChangeFits self.old) }
     {
-        let (alloc, set, accounts) = (self.alloc, &mut self.set, &self.accounts);
+        let (alloc, set, accounts) = (self.alloc, &mut *self.set, &self.accounts);
         match request {
             Request::Margin => self.push_margin(workers, out)?,
             Request::MarginOf { account } => push_margin_of(alloc, out, set, accounts, &account)?,

@@ -68,18 +68,19 @@ impl Model for SetInUse {
 
 impl SetInUse {
     /// Prepares a parameter set for use.
-    pub(crate) fn new(alloc: Global, set: Arc<CompiledSet>) -> Result<SetInUse, AllocError>
-        ensures { IfOk result (λ s. s ≡ arc_value set) }
+    pub(crate) fn new(alloc: Global, set: Arc<CompiledSet>) -> Result<Box<SetInUse>, AllocError>
+        ensures { IfOk result (λ s. s.value ≡ arc_value set) }
     {
         let runs = Runs::new(alloc, &set)?;
         let trader = Trader::new(alloc, set.tables())?;
-        Ok(SetInUse {
+        let set = SetInUse {
             alloc,
             set,
             runs,
             trader,
             before: None,
-        })
+        };
+        Ok(Box::new(alloc, set)?)
     }
 
     /// Returns the compiled parameter set.

@@ -343,12 +343,6 @@ refused_by kinds e given old_out new_out old_err new_err (inr among) told = of_k
   of_kind (k ∷ ks) (inl is) = inl (subst (λ (x : ErrorKind). telling.RefusesWords x given old_out new_out old_err new_err) is told)
   of_kind (k ∷ ks) (inr later) = inr (of_kind ks later)
 
--- arguments that nothing rejects
-pub words_answered : (kinds : Kinds) (answered : Type 0) (given : ℕ) (old_out new_out old_err new_err : Stream) → kinds ≡ []
-    → answered → AnswersWords kinds answered given old_out new_out old_err new_err
-words_answered [] answered given old_out new_out old_err new_err none holds = holds
-words_answered (k ∷ ks) answered given old_out new_out old_err new_err none holds = cc
-
 -- arguments that may be rejected: out of memory is reported, or an error of one of their kinds
 pub words_refused : (kinds : Kinds) (answered : Type 0) (e : Error) (given : ℕ) (old_out new_out old_err new_err : Stream)
     → HasKind kinds e → telling.RefusesWords (kind_of e) given old_out new_out old_err new_err

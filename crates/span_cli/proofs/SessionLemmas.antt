@@ -2,7 +2,7 @@
 use Rattle.std.proofs.Common.{◌≡◌, ◌∙◌, ◌⊎◌, ◌++◌, ◌-◌, ◌^◌, ◌+◌, ℕ, Bool, true, false, List, [], ◌∷◌, Option, Some, None, Result, Ok, Err}
 use Rattle.std.proofs.Common.{refl, sym, ap, subst, inl, inr, length}
 use Rattle.std.proofs.lemmas.List.{map-append}
-use Rattle.std.proofs.lemmas.List.Elements.{All-nil, All-weaker}
+use Rattle.std.proofs.lemmas.List.Elements.{All-weaker}
 use Rattle.std.specs.Prelude.{All, IfSome, OnOk, flat_map}
 use Rattle.desks.specs.Desks.{Dealing, Deals}
 use Rattle.desks.specs.Events.{Asked, Event, asked_in, told_in}
@@ -170,11 +170,6 @@ serves_session file reads before after s r old new logged given new_out old_err 
     )
 
 -- ---- sources
-
--- no turns read no files
-pub no_files : {S : Type 0} (file : List ℕ → Option File) (reads : S → List ℕ → Bool → S → Type 0) (now : S)
-    → AreFromSource file reads now [] now
-no_files file reads now = record { asked = All-nil HasFileAsked; files = All-nil (IsFromSource file); in_order = refl }
 
 -- files from one source are also files from another source that has the same ones under all names
 pub same_source : (later file : List ℕ → Option File) (asked : List (List ℕ × File)) → ((name : List ℕ) → later name ≡ file name)

@@ -46,10 +46,10 @@ pub record IsRead {S : Type 0} (known : List ℕ → Option File) (reads : S →
 abbrev pub changed : State → Change → State
 changed s change.Nothing = s
 changed s (change.Account after) = record { tables = s.tables; accounts = with_account s.accounts after }
-changed s (change.Set set accounts) = state_of set accounts
+changed s (change.Set set accounts) = state_of set.value accounts
 
 -- the new holdings of a change fit the parameter set
 abbrev pub ChangeFits : State → Change → Type 0
 ChangeFits s change.Nothing = ⊤
 ChangeFits s (change.Account after) = fits (length s.tables.contracts) after.holdings ≡ true
-ChangeFits s (change.Set set accounts) = AllFit set accounts
+ChangeFits s (change.Set set accounts) = AllFit set.value accounts

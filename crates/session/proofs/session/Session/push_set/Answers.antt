@@ -18,11 +18,12 @@ returns-in_err-accounts-clause-answer c =
     let t = (arc_value c.in_ok-set.set).tables in
     let p = err_from_is_err_and c.from_residual-in_err-accounts.result c.from_residual-in_err-accounts.ensures.1 in
     let is : c.from_residual-in_err-accounts.result ≡ Err r = p.1 ∙ ap Err p.2 in
-    rw (is, c.in_ok-set.ensures.set s) (lost_refused s t c.tables-old.result.now.contracts c.tables-new.result.now.contracts
+    rw (is, c.in_ok-set.ensures.set s) (lost_refused s t c.tables.result.now.contracts c.tables-2.result.now.contracts
     c.self.inside.accounts r
-    (ap (λ (tables : AcceptedTables). tables.contracts) c.tables-old.ensures ∙ ap (λ (z : State). z.tables.contracts) c.self.view_is)
-    (ap (λ (tables : AcceptedTables). tables.contracts) c.tables-new.ensures
-    ∙ ap (λ (set : SetView). set.tables.contracts) c.in_ok-set-2.ensures)
+    (ap (λ (tables : AcceptedTables). tables.contracts) c.tables.ensures
+    ∙ ap (λ (set : SetView). set.tables.contracts) c.deref.ensures ∙ ap (λ (z : State). z.tables.contracts) c.self.view_is)
+    (ap (λ (tables : AcceptedTables). tables.contracts) c.tables-2.ensures
+    ∙ ap (λ (set : SetView). set.tables.contracts) (c.deref-2.ensures ∙ c.in_ok-set-2.ensures))
     (ap (λ (z : State). z.accounts) c.self.view_is)
     c.in_err-accounts.ensures.lost)
 
@@ -33,9 +34,9 @@ returns-in_err-push_counts-clause-answer c =
 
 pub returns-clause-fits : goal.returns-clause-fits
 returns-clause-fits c =
-    let old = c.tables-old.result.now.contracts in
-    let new = c.tables-new.result.now.contracts in
+    let old = c.tables.result.now.contracts in
+    let new = c.tables-2.result.now.contracts in
     let fit = under_fit old new c.self.inside.accounts in
     let here = subst (All (λ (p : AccountHoldings). fits (length new) p.holdings ≡ true)) (sym c.in_ok-accounts.ensures.accounts) fit in
     subst (λ (t : AcceptedTables). All (λ (p : AccountHoldings). fits (length t.contracts) p.holdings ≡ true) c.in_ok-accounts.accounts)
-    c.tables-new.ensures here
+    (c.tables-2.ensures ∙ ap (λ (set : SetView). set.tables) c.deref-2.ensures) here
