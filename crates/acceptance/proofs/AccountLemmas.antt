@@ -1,6 +1,5 @@
 -- The portfolios of bound positions have distinct accounts.
-use Rattle.std.proofs.Common.{◌≡◌, ◌∙◌, ℕ, Bool, true, false, not, cond}
-use Rattle.std.proofs.Common.{List, [], ◌∷◌, map, filter}
+use Rattle.std.proofs.Common.{◌≡◌, ◌∙◌, ℕ, Bool, true, false, not, cond, List, [], ◌∷◌, map, filter}
 use Rattle.std.proofs.Common.{Option, Some, None, Ok, bytes_eq, refl, sym, ap, subst}
 use Rattle.std.specs.List.{AllByRecursion, IsDistinct}
 use Rattle.std.proofs.lemmas.Map.Keys.{IsDistinct-cons, IsDistinct-head, IsDistinct-tail}

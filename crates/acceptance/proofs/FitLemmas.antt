@@ -1,11 +1,10 @@
 -- The portfolios that positions are bound to fit the tables.
 use Rattle.std.proofs.Common.{◌≡◌, ℕ, ◌+◌, ◌≤◌, ◌<◌, Bool, true, false, cond, List, [], ◌∷◌, get_or, sym, ◌∙◌}
 use Rattle.std.proofs.Common.{length, map, filter, Option, Some, None, Ok, refl, subst, arith}
-use Rattle.std.specs.Prelude.{All, nat_lt, bytes_eq}
+use Rattle.std.specs.Prelude.{All, nat_lt, bytes_eq, slice_index_or}
 use Rattle.std.specs.List.{enumerate_from}
 use Rattle.std.proofs.lemmas.Bool.Decides.{nat_tests}
 use Rattle.std.proofs.lemmas.List.Elements.{All-map}
-use Rattle.std.specs.Prelude.{slice_index_or}
 use Rattle.binding.specs.Binding.{bind_fault, bindings_of}
 use Rattle.span_tables.specs.Faults.{ok_unless}
 use Rattle.span_tables.specs.Holdings.{fits, ArePortfolio}

@@ -1,10 +1,8 @@
 -- Lemmas about the faults found in the nets of all accounts.
 use Rattle.std.proofs.Common.{◌≡◌, ℕ, zero, suc, ◌+◌, Bool, true, false, cond, ◌&&◌, ◌||◌, List}
-use Rattle.std.proofs.Common.{[], ◌∷◌, filter, length, get_or, take, Option, Some, None, position, refl, sym, ap, ◌∙◌}
-use Rattle.std.specs.Prelude.{bytes_eq, ◌==◌}
+use Rattle.std.proofs.Common.{[], ◌∷◌, filter, length, get_or, take, Option, Some, None, position, refl, sym, ap, ◌∙◌, ◌++◌, not}
+use Rattle.std.specs.Prelude.{bytes_eq, ◌==◌, if◌then◌else◌, option_map, option_to_list}
 use Rattle.std.specs.List.{list_any}
-use Rattle.std.proofs.Common.{◌++◌, not}
-use Rattle.std.specs.Prelude.{if◌then◌else◌, option_map, option_to_list}
 use Rattle.std.proofs.Math.Bool.{and-true, or-false}
 use Rattle.std.proofs.lemmas.Bool.{or_parts, or_from, and_right}
 use Rattle.std.proofs.lemmas.List.{take_more}

@@ -28,9 +28,7 @@ use Rattle.binding.specs.OrderBinding.{is_of_unknown, net_exceeds_with, order_bi
 use Rattle.binding.specs.near.Holdings.{are_many, excess_of, found_faults, ids_of}
 use Rattle.binding.specs.near.Ledgers.{foreign_faults, held_entries, listed_records}
 use Rattle.binding.specs.near.Nets.{entries_of}
-use Rattle.binding.specs.near.Orders.{all_kept_as, kept_after, kept_as, kept_order, order_fault}
-use Rattle.binding.specs.near.Orders.{portfolio_before}
-use Rattle.binding.specs.near.Orders.{IsKept}
+use Rattle.binding.specs.near.Orders.{all_kept_as, kept_after, kept_as, kept_order, order_fault, portfolio_before, IsKept}
 use Rattle.binding.specs.near.Sums.{kept_holding, kept_holdings}
 use Rattle.binding.specs.declared.ledgers.Entry.{Entry}
 use Rattle.binding.specs.declared.over_limits.Excess.{Excess}

@@ -1,7 +1,6 @@
 -- Which orders fit the accepted tables and the portfolios of accounts, and the holdings of each account without and
 -- with its order.
-use Rattle.std.specs.Prelude.{ℕ, Bool, not, ◌&&◌, nat_lt, List, map}
-use Rattle.std.specs.Prelude.{length, Option, bytes_eq, nat_abs, Result, true, false}
+use Rattle.std.specs.Prelude.{ℕ, Bool, not, ◌&&◌, nat_lt, List, map, length, Option, bytes_eq, nat_abs, Result, true, false}
 use Rattle.std.specs.List.{list_any, position_or_len}
 use Rattle.span_tables.specs.Faults.{first_of, ok_unless}
 use Rattle.span_tables.specs.Net.{AccountHoldings}

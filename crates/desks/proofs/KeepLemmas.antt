@@ -1,7 +1,6 @@
 -- The bytes that are kept of a line.
 use Rattle.std.proofs.Common.{◌≡◌, ◌∙◌, ◌+◌, ◌-◌, ◌<◌, ◌≤◌, ℕ, true, false, List, [], ◌∷◌, ◌++◌, None, refl, sym, ap, arith, inl, inr}
-use Rattle.std.proofs.Common.{length, take}
-use Rattle.std.proofs.Common.{length-append}
+use Rattle.std.proofs.Common.{length, take, length-append}
 use Rattle.std.proofs.Math.Bool.{or-false, or-true}
 use Rattle.std.proofs.Math.Seq.{take-append-add}
 use Rattle.std.proofs.lemmas.Bool.{cases_Bool, cases_lt, le-ltb, lt-ltb}

@@ -98,9 +98,3 @@ pub takes_line : (r : Result Bool DeskFault) (old now : Reach) (bytes rest : Opt
 takes_line r old now bytes rest line request reads end open_before same is =
     rw (open_before, same, ← is, reads.kept)
     (reads.part ++ end_read r, reads.taken, requests_of_line r reads.part rest reads.no_feed end)
-
--- a read failed if reading a line left the input cut off
-pub cut_off_after : (r : Result Bool DeskFault) (has_failed : Type 0) → OnErr r has_failed → reach_after r ≡ reach.CutOff → has_failed
-cut_off_after (Ok true) has_failed h is = cc
-cut_off_after (Ok false) has_failed h is = cc
-cut_off_after (Err fault) has_failed h is = h

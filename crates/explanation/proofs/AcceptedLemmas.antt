@@ -12,8 +12,7 @@ use Rattle.span_tables.specs.Faults.{first_of, ok_unless}
 use Rattle.span_tables.specs.Holdings.{ArePortfolio}
 use Rattle.span_tables.specs.Laws.{IsFaultFree}
 use Rattle.span_tables.specs.Names.{distinct, is_name, is_name_byte}
-use Rattle.span_tables.specs.Net.{AccountHoldings, HeldContract, accounts_of, held_contracts, held_of, holdings_of}
-use Rattle.span_tables.specs.Net.{portfolios_of}
+use Rattle.span_tables.specs.Net.{AccountHoldings, HeldContract, accounts_of, held_contracts, held_of, holdings_of, portfolios_of}
 use Rattle.span_tables.specs.Rules.{as_commodity, as_contract, as_set}
 use Rattle.span_tables.specs.Tables.{AcceptedTables, tables_of}
 use Rattle.span_tables.specs.near.Limits.{contract_in_range, in_range, is_readable}

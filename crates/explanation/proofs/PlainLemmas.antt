@@ -17,8 +17,7 @@ use Rattle.span_tables.specs.declared.sides.Direction.{Direction}
 use Rattle.span_tables.specs.declared.sides.Direction.TheVariants.{ALong, AShort}
 use Rattle.scan_risk.specs.Scenarios.{scan_of, scenario_sums}
 use Rattle.inter_credit.specs.OptionValue.{position_value}
-use Rattle.plan_ir.specs.Figures.{commodity_at, figures_of, held_at, is_commodity_held, numbers_of}
-use Rattle.plan_ir.specs.Figures.{no_commodity, option_value_of}
+use Rattle.plan_ir.specs.Figures.{commodity_at, figures_of, held_at, is_commodity_held, numbers_of, no_commodity, option_value_of}
 use Rattle.plan_ir.specs.declared.figures.Figures.{Figures}
 use Rattle.reasons.specs.Reasons.{credit_reason, credit_reasons, held_reason, held_reasons, inter_reason, inters_shown_at, intra_reason}
 use Rattle.reasons.specs.Reasons.{intras_shown_at, kind_letter, long_side, method_word, month_reason, month_reasons, months_shown_at}

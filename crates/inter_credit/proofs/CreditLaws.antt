@@ -1,7 +1,6 @@
 -- The credit is the greatest number whose product is within price risk times weight. Without spreads there is no
 -- credit.
-use Rattle.std.proofs.Common.{◌≡◌, ℕ, ◌*◌, ◌/◌, ◌^◌, ◌<◌, ◌≤◌, Bool, true, false, cond, List, nat_abs, zero}
-use Rattle.std.proofs.Common.{suc, [], ◌∷◌, refl, arith}
+use Rattle.std.proofs.Common.{◌≡◌, ℕ, ◌*◌, ◌/◌, ◌^◌, ◌<◌, ◌≤◌, Bool, true, false, cond, List, nat_abs, zero, suc, [], ◌∷◌, refl, arith}
 use Rattle.std.specs.Prelude.{◌==◌, ◌≢◌}
 use Rattle.std.proofs.Math.Nat.{mul-zero, zero-div}
 use Rattle.std.proofs.lemmas.Bool.Decides.{nat_tests}

@@ -1,6 +1,5 @@
 -- An intercommodity spread forms in at most one direction.
-use Rattle.std.proofs.Common.{◌≡◌, ◌/◌, ◌<◌, ℕ, ℤ, zero, suc, pos, negsuc, List, [], ◌∷◌, length, refl, ap, ◌∙◌, arith}
-use Rattle.std.proofs.Common.{◌⊎◌, inl, inr}
+use Rattle.std.proofs.Common.{◌≡◌, ◌/◌, ◌<◌, ℕ, ℤ, zero, suc, pos, negsuc, List, [], ◌∷◌, length, refl, ap, ◌∙◌, arith, ◌⊎◌, inl, inr}
 use Rattle.std.proofs.Math.Nat.{zero-div}
 use Rattle.span_tables.specs.Accepted.{IsInter}
 use Rattle.span_tables.specs.Sides.{IsLeftOf, market_side, part_on, spreads_formed}

@@ -1,5 +1,5 @@
 -- A spread in a direction uses exactly what each leg needs of its commodity, and nothing of other commodities.
-use Rattle.std.proofs.Common.{◌≡◌, ◌≢◌, ◌+◌, ◌*◌, ◌-◌, ◌<◌, ◌≤◌, ◌==◌, ℕ, zero, suc, false, List, [], ◌∷◌, length}
+use Rattle.std.proofs.Common.{◌≡◌, ◌≢◌, ◌+◌, ◌*◌, ◌<◌, ◌≤◌, ◌==◌, ℕ, zero, suc, false, List, [], ◌∷◌, length}
 use Rattle.std.proofs.Common.{refl, sym, ap, ◌∙◌, arith}
 use Rattle.std.specs.List.{AllByRecursion, list_any}
 use Rattle.span_tables.specs.Accepted.{IsInter}
@@ -9,8 +9,7 @@ use Rattle.span_tables.specs.declared.sides.Direction.{Direction}
 use Rattle.span_tables.specs.declared.sides.MarketSide.{MarketSide}
 use Rattle.span_tables.specs.declared.records.CommodityLeg.{CommodityLeg}
 use Rattle.span_tables.specs.declared.records.Inter.{Inter}
-use Rattle.inter_credit.specs.Credits.{change_at, commodity_rooms, inter_one_way, leg_side, state_after, state_at}
-use Rattle.inter_credit.specs.Credits.{states_after, rest_at}
+use Rattle.inter_credit.specs.Credits.{change_at, commodity_rooms, inter_one_way, leg_side, state_after, state_at, states_after, rest_at}
 use Rattle.inter_credit.specs.near.Rooms.{HaveRoom}
 use Rattle.inter_credit.specs.declared.commodity_state.CommodityState.{CommodityState}
 use Rattle.inter_credit.proofs.StateLemmas.{HaveRoom-rest, state_at-change_at, not_equal, rest_at-change_at}

@@ -1,6 +1,5 @@
 -- Tiers by their commodity, and the rule that they do not share a month.
-use Rattle.std.proofs.Common.{◌≡◌, ℕ, ◌++◌, ◌∷◌, [], List, false, true, Bool, cond}
-use Rattle.std.proofs.Common.{bytes_eq, Option, None, Some, refl, sym, ap, ◌∙◌, ◌&&◌}
+use Rattle.std.proofs.Common.{◌≡◌, ℕ, ◌++◌, ◌∷◌, [], List, false, true, Bool, cond, bytes_eq, Option, None, Some, refl, sym, ap, ◌∙◌, ◌&&◌}
 use Rattle.std.specs.Prelude.{if◌then◌else◌, filter_map}
 use Rattle.std.specs.List.{list_any}
 use Rattle.std.specs.Option.{option_map_or}

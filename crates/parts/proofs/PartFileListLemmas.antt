@@ -1,6 +1,5 @@
 -- Position files in another order, and lists of position files that pairwise have no account in common.
-use Rattle.std.proofs.Common.{◌≡◌, ◌∙◌, ℕ, ◌≤◌, Bool, true, false, not}
-use Rattle.std.proofs.Common.{List, [], ◌∷◌, ◌++◌, map}
+use Rattle.std.proofs.Common.{◌≡◌, ◌∙◌, ℕ, ◌≤◌, Bool, true, false, not, List, [], ◌∷◌, ◌++◌, map}
 use Rattle.std.proofs.Common.{Option, Some, None, Ok, Err, Result, refl, sym, ap, subst, arith, append_assoc}
 use Rattle.std.specs.Prelude.{All, AllPairs, IsPermutation, flat_map, is_none, is_ok}
 use Rattle.std.specs.List.{AllByRecursion, concat, list_any}

@@ -1,6 +1,5 @@
 -- Parts of a position file that have no account in common.
-use Rattle.std.proofs.Common.{◌≡◌, ◌∙◌, ℕ, Bool, true, false, cond, not, ◌||◌, ◌&&◌}
-use Rattle.std.proofs.Common.{List, [], ◌∷◌, ◌++◌, map, filter}
+use Rattle.std.proofs.Common.{◌≡◌, ◌∙◌, ℕ, Bool, true, false, cond, not, ◌||◌, ◌&&◌, List, [], ◌∷◌, ◌++◌, map, filter}
 use Rattle.std.proofs.Common.{Option, Some, None, Ok, refl, sym, ap}
 use Rattle.std.specs.Prelude.{bytes_eq, flat_map, length, nat_abs, nat_lt}
 use Rattle.std.specs.List.{enumerate_from, list_any}

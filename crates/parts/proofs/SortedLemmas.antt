@@ -1,7 +1,6 @@
 -- Lists sorted by a text in byte order.
 use Rattle.std.proofs.Common.{◌≡◌, ◌∙◌, ℕ, suc, ◌<◌, ◌≤◌, Bool, true, false, cond, not, ◌&&◌, get_or}
-use Rattle.std.proofs.Common.{List, [], ◌∷◌, ◌++◌, filter, refl, sym, ap, subst, arith}
-use Rattle.std.proofs.Common.{Ordering, Less, Equal, Greater}
+use Rattle.std.proofs.Common.{List, [], ◌∷◌, ◌++◌, filter, refl, sym, ap, subst, arith, Ordering, Less, Equal, Greater}
 use Rattle.std.specs.Prelude.{IsPermutation, IsSortedByKey, bytes_eq, length}
 use Rattle.std.specs.Cmp.Lexicographic.{slice_cmp, texts_ties}
 use Rattle.std.specs.Cmp.{IsStrictWeakOrder}

@@ -15,8 +15,7 @@ use Rattle.plan_ir.specs.declared.plans.TheConstants.{MAX_INPUTS, MAX_STEPS}
 use Rattle.plan_compiler.specs.Meaning.{before_inter, before_load, before_spread, before_total, before_value}
 use Rattle.plan_compiler.specs.Meaning.{last_tiers, rank_above_spreads, rank_of, wanted}
 use Rattle.plan_compiler.specs.Plan.{ops_of}
-use Rattle.plan_compiler.specs.Places.{first_step, inputs_of, inter_step, load_step, premium_step, tiers_step}
-use Rattle.plan_compiler.specs.Places.{total_step, value_steps}
+use Rattle.plan_compiler.specs.Places.{first_step, inputs_of, inter_step, load_step, premium_step, tiers_step, total_step, value_steps}
 use Rattle.plan_compiler.proofs.LayoutLemmas.{few_premiums, first_before, first_small, length_ops}
 use Rattle.plan_compiler.proofs.FromPlan.{place-before_inter, place-before_load, place-before_spread}
 use Rattle.plan_compiler.proofs.FromPlan.{place-before_total, place-before_value}

@@ -1,6 +1,5 @@
 -- What an operation takes, and its value on any inputs.
-use Rattle.std.specs.Prelude.{◌≡◌, ℕ, ◌<◌, ◌≤◌, List, [], length, replicate, slice_index_or}
-use Rattle.std.specs.Prelude.{slice_set, ⊤, All, pos, ◌+ℤ◌, nat_abs}
+use Rattle.std.specs.Prelude.{◌≡◌, ℕ, ◌<◌, ◌≤◌, List, [], length, replicate, slice_index_or, slice_set, ⊤, All, pos, ◌+ℤ◌, nat_abs}
 use Rattle.span_money.specs.declared.amounts.TheConstants.{MAX_MONEY}
 use Rattle.span_tables.specs.Tables.{AcceptedTables, inters_of}
 use Rattle.span_tables.specs.declared.limits.TheConstants.{MAX_PRICE2, MAX_SUM}

@@ -1,6 +1,5 @@
 -- The contract view of a plan: a list of steps, each an operation with the numbers of the steps that are its inputs.
-use Rattle.std.specs.Prelude.{◌≡◌, ℕ, ◌+◌, ◌<◌, ◌≤◌, Bool, ◌==◌, false, if◌then◌else◌}
-use Rattle.std.specs.Prelude.{List, [], ◌∷◌, All, length, map, slice_index_or}
+use Rattle.std.specs.Prelude.{◌≡◌, ℕ, ◌+◌, ◌<◌, ◌≤◌, Bool, ◌==◌, false, if◌then◌else◌, List, [], ◌∷◌, All, length, map, slice_index_or}
 use Rattle.std.specs.List.{list_any}
 use Rattle.span_tables.specs.Names.{has_repeat}
 use Rattle.plan_ir.specs.declared.plans.TheConstants.{MAX_STEPS}

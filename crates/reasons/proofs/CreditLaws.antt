@@ -21,8 +21,7 @@ use Rattle.span_tables.specs.declared.sides.Direction.TheVariants.{ALong, AShort
 use Rattle.span_tables.specs.declared.sides.SpreadsFormed.{SpreadsFormed}
 use Rattle.spread_stage.specs.Deltas.{units_at}
 use Rattle.spread_stage.specs.declared.months.MonthUnits.{MonthUnits}
-use Rattle.inter_credit.specs.Credits.{after_inter_spreads, inter_formed_both, inter_both_ways}
-use Rattle.inter_credit.specs.Credits.{state_at}
+use Rattle.inter_credit.specs.Credits.{after_inter_spreads, inter_formed_both, inter_both_ways, state_at}
 use Rattle.inter_credit.specs.declared.commodity_state.CommodityState.{CommodityState}
 use Rattle.inter_credit.proofs.RestLaws.{length-inter_both_ways}
 use Rattle.inter_credit.proofs.WeightLaws.{weight-inter_both_ways}

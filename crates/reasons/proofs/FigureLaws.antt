@@ -7,9 +7,8 @@ use Rattle.span_tables.specs.declared.records.MinimumMethod.{MinimumMethod}
 use Rattle.span_tables.specs.declared.records.MinimumMethod.TheVariants as method
 use Rattle.scan_risk.specs.Scenarios.{active_scenario, scan_of, scan_risk, scenario_sums}
 use Rattle.span_tables.specs.Net.{HeldContract}
-use Rattle.inter_credit.specs.Credits.{credit_of, unspread_state}
+use Rattle.inter_credit.specs.Credits.{credit_of, unspread_state, credit_at, state_at}
 use Rattle.inter_credit.specs.Requirement.{is_call, is_put, minimum_of, requirement_of, short_count, short_options}
-use Rattle.inter_credit.specs.Credits.{credit_at, state_at}
 use Rattle.inter_credit.specs.declared.commodity_state.CommodityState.{CommodityState}
 use Rattle.plan_ir.specs.Figures.{commodity_at, figures_of, held_at, inter_states}
 use Rattle.reasons.specs.Laws.{counted}

@@ -23,15 +23,13 @@ use Rattle.spread_stage.specs.declared.months.MonthUnits.{MonthUnits}
 use Rattle.spread_stage.proofs.SpreadBounds.{both_ways_are}
 use Rattle.spread_stage.proofs.SizeLemmas.{left_le, part_on-le, units_at_le}
 use Rattle.spread_stage.proofs.SpreadLemmas.{formed_falls, legs_rise}
-use Rattle.inter_credit.specs.Credits.{inter_both_ways, inter_formed_both, inter_formed_in, inter_one_way, leg_side}
-use Rattle.inter_credit.specs.Credits.{rest_at, state_at}
+use Rattle.inter_credit.specs.Credits.{inter_both_ways, inter_formed_both, inter_formed_in, inter_one_way, leg_side, rest_at, state_at}
 use Rattle.inter_credit.specs.States.{UsesState}
 use Rattle.inter_credit.specs.near.Rooms.{HaveRoom}
 use Rattle.inter_credit.specs.declared.commodity_state.CommodityState.{CommodityState}
 use Rattle.inter_credit.proofs.RestLaws.{length-inter_both_ways, length-states_after, one_way_uses}
 use Rattle.inter_credit.proofs.SpreadLemmas.{formed_have_room}
-use Rattle.reasons.specs.Shown.{inter_in, inter_ways, inters_shown, intra_in, intra_ways, intras_shown, months_shown, ratio_in}
-use Rattle.reasons.specs.Shown.{spots_shown}
+use Rattle.reasons.specs.Shown.{inter_in, inter_ways, inters_shown, intra_in, intra_ways, intras_shown, months_shown, ratio_in, spots_shown}
 use Rattle.reasons.specs.declared.shown.ShownInter.{ShownInter}
 use Rattle.reasons.specs.declared.shown.ShownIntra.{ShownIntra}
 use Rattle.reasons.specs.declared.shown.ShownMonth.{ShownMonth}

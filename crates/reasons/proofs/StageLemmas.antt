@@ -14,11 +14,9 @@ use Rattle.span_tables.specs.declared.records.Spot.{Spot}
 use Rattle.scan_risk.specs.Scenarios.{scan_of, scenario_sums}
 use Rattle.spread_stage.specs.Spreads.{TierRests, spread_both_ways, unspread}
 use Rattle.spread_stage.specs.declared.months.MonthUnits.{MonthUnits}
-use Rattle.inter_credit.specs.Credits.{unspread_state}
-use Rattle.inter_credit.specs.Credits.{state_at}
+use Rattle.inter_credit.specs.Credits.{unspread_state, state_at}
 use Rattle.inter_credit.specs.declared.commodity_state.CommodityState.{CommodityState}
-use Rattle.plan_ir.specs.Figures.{commodity_at, deltas_at, held_at, intras_at, loaded_states, spots_at}
-use Rattle.plan_ir.specs.Figures.{tiers_at}
+use Rattle.plan_ir.specs.Figures.{commodity_at, deltas_at, held_at, intras_at, loaded_states, spots_at, tiers_at}
 use Rattle.plan_compiler.proofs.StageLemmas.{tiers_are}
 use Rattle.reasons.specs.Reasons.{credit_reason, held_reason, held_reasons, inter_reason, inters_shown_at, intra_reason}
 use Rattle.reasons.specs.Reasons.{state_after_all, month_reason, month_reasons, reasons_of, scan_reason, scan_reasons}

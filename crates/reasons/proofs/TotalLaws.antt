@@ -1,6 +1,5 @@
 -- A commodity without held contracts adds nothing to the total and the option value of an account.
-use Rattle.std.proofs.Common.{◌≡◌, ℕ, zero, suc, ◌+◌, ◌<◌, Bool, true, false, cond}
-use Rattle.std.proofs.Common.{List, [], ◌∷◌, length, refl, ap, ◌∙◌, arith}
+use Rattle.std.proofs.Common.{◌≡◌, ℕ, zero, suc, ◌+◌, ◌<◌, Bool, true, false, cond, List, [], ◌∷◌, length, refl, ap, ◌∙◌, arith}
 use Rattle.std.proofs.Common.{filter, sym}
 use Rattle.std.specs.Prelude.{◌==◌, ℤ, nat_abs, not, pos}
 use Rattle.std.specs.List.{range_with_len}

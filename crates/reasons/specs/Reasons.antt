@@ -20,8 +20,7 @@ use Rattle.inter_credit.specs.OptionValue.{position_value}
 use Rattle.inter_credit.specs.Requirement.{is_call, is_put, short_count}
 use Rattle.inter_credit.specs.Credits.{state_at}
 use Rattle.inter_credit.specs.declared.commodity_state.CommodityState.{CommodityState}
-use Rattle.plan_ir.specs.Figures.{commodity_at, deltas_at, held_at, inter_states, intras_at, loaded_states, spots_at}
-use Rattle.plan_ir.specs.Figures.{tiers_at}
+use Rattle.plan_ir.specs.Figures.{commodity_at, deltas_at, held_at, inter_states, intras_at, loaded_states, spots_at, tiers_at}
 use Rattle.reasons.specs.Shown.{inters_shown, shown_intra_charge, intras_shown, months_shown, shown_spot_charge, spots_shown}
 use Rattle.reasons.specs.declared.shown.ShownInter.{ShownInter}
 use Rattle.reasons.specs.declared.shown.ShownIntra.{ShownIntra}

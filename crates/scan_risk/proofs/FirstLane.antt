@@ -1,7 +1,6 @@
 -- The first of the sums that is a number, found by the bits of all lanes.
 use Rattle.std.proofs.Common.{◌≡◌, ◌≢◌, ℕ, ◌-◌, ◌%◌, ◌^◌, ◌<◌, ◌≤◌, cond, replicate, List, Bool, true, false, not}
-use Rattle.std.proofs.Common.{length, get_or, map, eqb, pos, ℤ, w64, to_z, of_z}
-use Rattle.std.proofs.Common.{arith, ap, sym, subst, ◌∙◌, lit<}
+use Rattle.std.proofs.Common.{length, get_or, map, eqb, pos, ℤ, w64, to_z, of_z, arith, ap, sym, subst, ◌∙◌, lit<}
 use Rattle.std.specs.Prelude.{All, Contains}
 use Rattle.std.specs.List.{prefix_len}
 use lib.Count.{count_trailing_zeros}

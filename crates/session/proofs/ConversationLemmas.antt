@@ -9,8 +9,7 @@ use Rattle.sources.specs.Files.{File, ReadGives}
 use Rattle.sources.specs.Reads.{ReadsAll}
 use Rattle.session.specs.Answers.{State}
 use Rattle.session.specs.Conversations.{AreFromSource, HasFileAsked, IsFromSource, Turn, answer_of, answer_text, events_from, file_of}
-use Rattle.session.specs.Conversations.{files_of, log_of}
-use Rattle.session.specs.Conversations.{opening_text, reads_of, state_after, state_behind}
+use Rattle.session.specs.Conversations.{files_of, log_of, opening_text, reads_of, state_after, state_behind}
 
 -- ---- files
 

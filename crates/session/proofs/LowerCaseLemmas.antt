@@ -35,8 +35,7 @@ use Rattle.binding.specs.OrderBinding.{TriedOrder}
 use Rattle.session.specs.Accounts.{account_named, account_records, contract_of, flat_records, held_record, held_records, lost_record}
 use Rattle.session.specs.Accounts.{position_records}
 use Rattle.session.specs.Answers.{Answered, State, answer_to, fill_answer, filled_answer, has_no_place, if_fit, is_stdin, lines_of}
-use Rattle.session.specs.Answers.{opened, order_on, set_answer, total_text, tried, tried_answer, under_accepted, under_asked}
-use Rattle.session.specs.Answers.{under_tables}
+use Rattle.session.specs.Answers.{opened, order_on, set_answer, total_text, tried, tried_answer, under_accepted, under_asked, under_tables}
 use Rattle.session.specs.Conversations.{Turn, answer_of, answer_on, done_line, opening_text, request_on, state_behind}
 use Rattle.session.specs.Positions.{position_line, position_lines}
 use Rattle.session.specs.Refusals.{Refused}

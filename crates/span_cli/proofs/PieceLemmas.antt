@@ -1,6 +1,5 @@
 -- Bytes that are read in pieces, each after those before it.
-use Rattle.std.proofs.Common.{◌≡◌, ℕ, ◌+◌, List, ◌++◌, Option, Result, Ok, Err, IfOk, length, take, drop}
-use Rattle.std.proofs.Common.{sym, ap, subst, ◌∙◌, drop_at}
+use Rattle.std.proofs.Common.{◌≡◌, ℕ, ◌+◌, List, ◌++◌, Option, Result, Ok, Err, IfOk, length, take, drop, sym, ap, subst, ◌∙◌, drop_at}
 use Rattle.std.proofs.KnownBytes.{Consumes-trans}
 use Rattle.std.proofs.Math.Seq.{take-add}
 use Rattle.std.proofs.lemmas.List.{take-append-le}

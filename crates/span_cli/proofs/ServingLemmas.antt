@@ -26,7 +26,7 @@ use Rattle.span_cli.specs.Telling.{AnswersWords, AreOpened, RefusesWordsBy, Serv
 use Rattle.span_cli.specs.Words.{asked_in, is_request, request_in}
 use Rattle.statement_text.specs.declared.statuses.TheConstants.{DONE, FILE_FAILED, OUT_OF_MEMORY}
 use Rattle.span_cli.specs.Telling as telling
-use Rattle.span_cli.specs.near.Refusals.{Loads, MayGive, Opens, TellsSome, given_answer, read_then, refusal_answer}
+use Rattle.span_cli.specs.near.Refusals.{Loads, MayGive, Opens, TellsSome, read_then, refusal_answer}
 use Rattle.span_cli.specs.near.Sessions.{TellsSession, texts_from}
 use Rattle.span_cli.specs.declared.requests.Command.{Command}
 use Rattle.span_cli.specs.declared.serving.Refusal.{Refusal}

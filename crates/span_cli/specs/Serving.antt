@@ -1,6 +1,5 @@
 -- The answer to a request.
-use Rattle.std.specs.Prelude.{◌≡◌, ℕ, Bool, true, false, List, [], ◌∷◌, ◌++◌, flat_map, codes, map, Option, Some, None}
-use Rattle.std.specs.Prelude.{Result, Ok, Err, ⊤}
+use Rattle.std.specs.Prelude.{◌≡◌, ℕ, Bool, true, false, List, [], ◌∷◌, ◌++◌, flat_map, codes, map, Option, Some, None, Result, Ok, Err, ⊤}
 use Rattle.explanation.specs.Explanation.{explanation_of}
 use Rattle.session.specs.Conversations.{Turn, session_of}
 use Rattle.statement.specs.AllFaults.{faults_of, faults_status, faults_text}

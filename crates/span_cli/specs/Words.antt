@@ -6,8 +6,7 @@ use Rattle.clap.specs.Kinds.{or_else}
 use Rattle.clap.specs.Lexer.{usize_max}
 use Rattle.clap.specs.ValueTests.{is_unsigned_in}
 use Rattle.clap.specs.Walk.{is_empty}
-use Rattle.clap.specs.Words.{App, Kinds, Row, Rule, Text, first_of, new_app, new_rule, fault_of, subcommand_of}
-use Rattle.clap.specs.Words.{with_rule, with_subcommand}
+use Rattle.clap.specs.Words.{App, Kinds, Row, Rule, Text, first_of, new_app, new_rule, fault_of, subcommand_of, with_rule, with_subcommand}
 use Rattle.clap.specs.declared.builder.value_parser.ValueParser.TheVariants as value_parser
 use Rattle.clap.specs.declared.error.kind.ErrorKind.TheVariants as kind
 use Rattle.span_tables.specs.Names.{name_of}

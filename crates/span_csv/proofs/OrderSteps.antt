@@ -20,8 +20,7 @@ use Rattle.span_tables.proofs.GroupLemmas.{name_sym}
 use Rattle.span_tables.proofs.NameLaws.{distinct_once}
 use Rattle.span_tables.proofs.NameLemmas.{is_among-distinct, same_name}
 use Rattle.span_tables.proofs.NumberedLaws.{accounts_of-push, among_at, name_there, stays}
-use Rattle.span_tables.proofs.Places.{place_at}
-use Rattle.span_tables.proofs.Places.{same_name as itself}
+use Rattle.span_tables.proofs.Places.{place_at, same_name as itself}
 use Rattle.span_tables.specs.declared.limits.TheConstants.{MAX_ORDERS}
 use Rattle.span_csv.specs.OrderFaults.{is_memory}
 use Rattle.span_csv.specs.PositionFaults as position

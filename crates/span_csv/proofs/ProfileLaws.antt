@@ -15,8 +15,7 @@ use Rattle.span_tables.specs.declared.records.ProductKind.{ProductKind}
 use Rattle.span_tables.specs.declared.records.Record.{Record}
 use Rattle.span_tables.proofs.FaultLaws.{first_fault_none, ok_parts}
 use Rattle.span_csv.specs.ParamFaults.{faults_in, is_set, param_faults, params_of, profile_of, record_fault}
-use Rattle.span_csv.specs.Records.{Fields, a_version, contract_back, contract_record}
-use Rattle.span_csv.specs.Records.{count_at, extras_place, is_in_range, kind_of}
+use Rattle.span_csv.specs.Records.{Fields, a_version, contract_back, contract_record, count_at, extras_place, is_in_range, kind_of}
 use Rattle.span_csv.specs.Records.{param_record, product_at, record_of_kind, records_of, set_forms, text_at}
 use Rattle.span_csv.proofs.CountLemmas.{IsClean, clean, clean_kind, param_record-kind, word_named}
 use Rattle.span_csv.proofs.FormLemmas.{count_past, right_at}

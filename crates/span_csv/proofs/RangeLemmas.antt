@@ -1,6 +1,5 @@
 -- A record whose fields have their forms is in its ranges.
-use Rattle.std.proofs.Common.{◌≡◌, ◌≤◌, ◌+◌, ◌-◌, ◌*◌, ◌∙◌, ◌&&◌, refl, arith}
-use Rattle.std.proofs.Common.{inl, inr, ℕ, suc, zero, Bool, true, Some, pos, neg_ℤ}
+use Rattle.std.proofs.Common.{◌≡◌, ◌≤◌, ◌+◌, ◌-◌, ◌*◌, ◌∙◌, ◌&&◌, refl, arith, inl, inr, ℕ, suc, zero, Bool, true, Some, pos, neg_ℤ}
 use Rattle.std.proofs.Common.{List, [], ◌∷◌, length, take, drop, map}
 use Rattle.std.specs.Prelude.{nat_le, nat_abs, slice_get, unwrap_or}
 use Rattle.std.specs.List.{list_all}
@@ -13,8 +12,7 @@ use Rattle.span_tables.specs.near.Limits.{lies_within, in_range, is_tier_number,
 use Rattle.span_tables.specs.Tables.{most_option_value}
 use Rattle.span_tables.specs.Profiles.{facts_of}
 use Rattle.span_tables.specs.declared.limits.TheConstants.{MAX_ARRAY_VALUE, MAX_BASIS_POINTS, MAX_DELTA, MAX_PRIORITY}
-use Rattle.span_tables.specs.declared.limits.TheConstants.{SCENARIOS, MAX_PROFILE, MAX_RATE, MAX_RATIO, MAX_SCALE}
-use Rattle.span_tables.specs.declared.limits.TheConstants.{MAX_TIER_NUMBER}
+use Rattle.span_tables.specs.declared.limits.TheConstants.{SCENARIOS, MAX_PROFILE, MAX_RATE, MAX_RATIO, MAX_SCALE, MAX_TIER_NUMBER}
 use Rattle.span_tables.specs.declared.records.IntraLeg.{IntraLeg}
 use Rattle.span_tables.specs.declared.records.InterLeg.{InterLeg}
 use Rattle.span_csv.specs.near.Grammar.{HasLegs, HasSize, are_right, has_right_legs, is_right, is_right_record}

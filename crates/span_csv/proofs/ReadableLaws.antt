@@ -20,9 +20,7 @@ use Rattle.span_tables.specs.declared.records.Contract.{Contract}
 use Rattle.span_tables.specs.declared.records.Record.{Record}
 use Rattle.span_tables.proofs.FaultLaws.{first_fault_none, ok_parts}
 use Rattle.span_tables.proofs.NameLemmas.{same_name}
-use Rattle.span_csv.specs.Records.{Fields}
-use Rattle.span_csv.specs.Records.{records_of}
-use Rattle.span_csv.specs.Records.{kind_of, text_at, record_of_kind, param_record}
+use Rattle.span_csv.specs.Records.{Fields, records_of, kind_of, text_at, record_of_kind, param_record}
 use Rattle.span_csv.specs.ParamFaults.{is_set, profile_of, exceeds_limit, count_of_kind, count_of_commodity}
 use Rattle.span_csv.specs.ParamFaults.{counted, faults_in, param_faults, params_of, record_fault}
 use Rattle.span_csv.proofs.KindLemmas.{clean_right}

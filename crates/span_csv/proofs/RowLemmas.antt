@@ -6,8 +6,7 @@ use Rattle.std.specs.Bool.{MatchBool}
 use Rattle.std.proofs.lemmas.Bool.{false≢true, cases_Bool}
 use Rattle.csv.specs.Machine.{Read, next_record, step, in_field, start_field, start_record, is_end}
 use Rattle.csv.specs.Machine.{ends_at_end, ends_with, after_end, carriage_return, fields_after, field_after}
-use Rattle.csv.specs.Reading.{records_from, records_next, default_config, source_of, pending_of, ReadRecord, ReadsNext}
-use Rattle.csv.specs.Reading.{NextIs, has_failed}
+use Rattle.csv.specs.Reading.{records_from, records_next, default_config, source_of, pending_of, ReadRecord, ReadsNext, NextIs, has_failed}
 use Rattle.csv.specs.declared.parser.Action.{Action}
 use Rattle.csv.specs.declared.parser.Action.TheVariants as act
 use Rattle.csv.specs.declared.parser.State.{State}

@@ -11,8 +11,7 @@ use Rattle.span_tables.specs.declared.records.Record.TheVariants as record_of
 use Rattle.span_csv.specs.near.Checks.{AddsRecord, Counts, IsOfKind, KeepsProfile, Tallies, count_for, count_in, count_word, count_words}
 use Rattle.span_csv.specs.near.Checks.{limit_of}
 use Rattle.span_csv.specs.ParamFaults.{counted, exceeds_limit, is_formed, profile_of}
-use Rattle.span_csv.specs.Records.{Fields}
-use Rattle.span_csv.specs.Records.{kind_of, record_of_kind, text_at}
+use Rattle.span_csv.specs.Records.{Fields, kind_of, record_of_kind, text_at}
 use Rattle.span_csv.specs.declared.tally.Tally.{Tally}
 use Rattle.span_csv.proofs.CountLemmas.{named_word, word_of}
 use Rattle.span_csv.proofs.FormedLemmas.{counted_few, counted_more, counted_same}

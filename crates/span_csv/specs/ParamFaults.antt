@@ -3,8 +3,7 @@ use Rattle.std.specs.Prelude.{ℕ, Bool, false, not, ◌&&◌, ◌==◌, if◌th
 use Rattle.std.specs.Prelude.{map, count_by, Option, Some, None, is_none, codes, bytes_eq, Result, true}
 use Rattle.std.specs.Option.{option_map_or}
 use Rattle.span_tables.specs.Faults.{first_that_holds, all_faults, first_of, ok_unless}
-use Rattle.span_csv.specs.Records.{Fields, records_of}
-use Rattle.span_csv.specs.Records.{kind_of, layout_of, text_at, is_word, a_version}
+use Rattle.span_csv.specs.Records.{Fields, records_of, kind_of, layout_of, text_at, is_word, a_version}
 use Rattle.span_csv.specs.Records.{all_have, has_word_form, has_number_form, is_in_range, count_at, param_record}
 use Rattle.span_tables.specs.declared.records.Record.{Record}
 use Rattle.span_csv.specs.declared.faults.ParamFault.{ParamFault}

@@ -1,5 +1,5 @@
 -- Lists by commodity: for each commodity, the elements that name it.
-use Rattle.std.proofs.Common.{◌≡◌, ℕ, suc, zero, ◌+◌, ◌<◌, ◌≤◌, Bool, true, false, cond, not, List, [], ◌∷◌}
+use Rattle.std.proofs.Common.{◌≡◌, ℕ, suc, zero, ◌+◌, ◌<◌, Bool, true, false, cond, not, List, [], ◌∷◌}
 use Rattle.std.proofs.Common.{◌++◌, length, map, filter, get_or, set, take, refl, sym, ap, ◌∙◌, subst, arith, Decides}
 use Rattle.std.specs.Prelude.{bytes_eq, All}
 use Rattle.std.specs.List.{list_any}

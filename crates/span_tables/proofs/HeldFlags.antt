@@ -6,10 +6,9 @@ use Rattle.std.specs.List.{list_all}
 use Rattle.std.proofs.lemmas.Bool.Decides.{nat_tests}
 use Rattle.std.proofs.lemmas.List.{append-nil}
 use Rattle.span_tables.specs.Accepted.{IsWithinLimits}
-use Rattle.span_tables.specs.Tables.{commodity_id}
+use Rattle.span_tables.specs.Tables.{commodity_id, AcceptedTables}
 use Rattle.span_tables.specs.Holdings.{ArePortfolio}
 use Rattle.span_tables.specs.Net.{held_of}
-use Rattle.span_tables.specs.Tables.{AcceptedTables}
 use Rattle.span_tables.specs.declared.portfolios.Holding.{Holding}
 use Rattle.span_tables.specs.near.Gathered.{holdings_in, number_held}
 use Rattle.span_tables.proofs.HeldLemmas.{are_holdings, held_in, length_held}

@@ -1,7 +1,6 @@
 -- The holdings of a commodity: each is of a contract that exists, has the contract's whole record, and is within the
 -- limits.
-use Rattle.std.proofs.Common.{◌≡◌, ℕ, ℤ, suc, zero, ◌<◌, ◌≤◌, Bool, true, false}
-use Rattle.std.proofs.Common.{cond, ltb, pos, List, [], ◌∷◌, length}
+use Rattle.std.proofs.Common.{◌≡◌, ℕ, ℤ, suc, zero, ◌<◌, ◌≤◌, Bool, true, false, cond, ltb, pos, List, [], ◌∷◌, length}
 use Rattle.std.proofs.Common.{filter, get_or, Option, Some, None, refl, sym, ap, ◌∙◌, subst, arith}
 use Rattle.std.specs.Prelude.{All, IfSome, bytes_eq, nat_abs, nat_lt, option_map, slice_get, unwrap_or}
 use Rattle.std.specs.List.{cons_option, list_all}

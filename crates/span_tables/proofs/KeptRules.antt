@@ -1,6 +1,5 @@
 -- Records that keep a rule: no record breaks it, and the consequences for the records of each kind.
-use Rattle.std.proofs.Common.{◌≡◌, ℕ, ◌+◌, Bool, true, false, List, [], ◌∷◌}
-use Rattle.std.proofs.Common.{◌++◌, length, Option, Some, None, refl, ap, ◌∙◌, subst}
+use Rattle.std.proofs.Common.{◌≡◌, ℕ, ◌+◌, Bool, true, false, List, [], ◌∷◌, ◌++◌, length, Option, Some, None, refl, ap, ◌∙◌, subst}
 use Rattle.std.specs.Prelude.{All, MatchOption, filter_map, is_none, if◌then◌else◌, option_map, ◌&&◌}
 use Rattle.std.specs.List.{AllByRecursion, cons_option, list_all, list_any}
 use Rattle.std.specs.Option.{option_to_list}

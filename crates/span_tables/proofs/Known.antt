@@ -1,6 +1,5 @@
 -- Each commodity that a record names is a commodity of the file.
-use Rattle.std.proofs.Common.{◌≡◌, ℕ, ◌<◌, false, eqb}
-use Rattle.std.proofs.Common.{not, Option, List, [], ◌∷◌, length, map, refl, ap, ◌∙◌, arith}
+use Rattle.std.proofs.Common.{◌≡◌, ℕ, ◌<◌, false, eqb, not, Option, List, [], ◌∷◌, length, map, refl, ap, ◌∙◌, arith}
 use Rattle.std.specs.Prelude.{All, MatchOption, ◌||◌, ◌==◌, bytes_eq, filter_map}
 use Rattle.std.specs.List.{AllByRecursion, list_any}
 use Rattle.std.proofs.lemmas.Bool.{not-false, or_parts}

@@ -1,6 +1,5 @@
 -- Order records stored as position records under their orders' names: both forms read back as the order records.
-use Rattle.std.proofs.Common.{◌≡◌, ◌∙◌, refl, sym, ap, inl, inr, arith, ℕ, suc, ◌+◌, true, false}
-use Rattle.std.proofs.Common.{List, [], ◌∷◌, length, get_or, map, subst}
+use Rattle.std.proofs.Common.{◌≡◌, ◌∙◌, refl, sym, ap, inl, inr, arith, ℕ, suc, ◌+◌, true, false, List, [], ◌∷◌, length, get_or, map, subst}
 use Rattle.std.specs.Prelude.{bytes_eq, All}
 use Rattle.std.specs.List.{list_any, position_or_len}
 use Rattle.std.proofs.lemmas.Bool.{cases_Bool, or_parts}

@@ -9,8 +9,7 @@ use Rattle.std.proofs.lemmas.List.Elements.{All-nil, All-cons, All-head, All-map
 use Rattle.span_tables.specs.Accepted.{IsContract, IsIntra, IsSpot}
 use Rattle.span_tables.specs.near.Limits.{commodity_in_range, contract_in_range, extras_in_range, in_range, inter_in_range}
 use Rattle.span_tables.specs.near.Limits.{intra_in_range, lies_within, set_in_range, spot_in_range}
-use Rattle.span_tables.specs.Tables.{most_option_value}
-use Rattle.span_tables.specs.Tables.{intra_spread, month_leg, profile_in}
+use Rattle.span_tables.specs.Tables.{most_option_value, intra_spread, month_leg, profile_in}
 use Rattle.span_tables.specs.Rules.{as_commodity, as_contract, as_inter, as_intra, as_set, as_spot}
 use Rattle.span_tables.specs.declared.limits.TheConstants.{MAX_ARRAY_VALUE, MAX_BASIS_POINTS, MAX_OPTION_VALUE}
 use Rattle.span_tables.specs.declared.limits.TheConstants.{MAX_PROFILE, MAX_RATE, MAX_RATIO}

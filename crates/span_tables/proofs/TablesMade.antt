@@ -1,16 +1,14 @@
 -- The lists that are computed from accepted tables in advance agree with the tables.
-use Rattle.std.proofs.Common.{◌≡◌, ℕ, suc, zero, ◌<◌, true, List, [], ◌∷◌}
-use Rattle.std.proofs.Common.{length, map, filter, get_or, refl, ap, ◌∙◌, arith}
+use Rattle.std.proofs.Common.{◌≡◌, ℕ, suc, zero, ◌<◌, true, List, [], ◌∷◌, length, map, filter, get_or, refl, ap, ◌∙◌, arith}
 use Rattle.std.specs.Prelude.{bytes_eq, option_map, slice_get, unwrap_or}
 use Rattle.std.proofs.lemmas.List.{length-map}
 use Rattle.span_tables.specs.declared.contracts.Terms.{Terms}
 use Rattle.span_tables.specs.near.Kept.{IsAccepted, IsTables, tables_from}
 use Rattle.span_tables.specs.near.Terms.{terms_of}
-use Rattle.span_tables.specs.Tables.{commodity_id}
+use Rattle.span_tables.specs.Tables.{commodity_id, AcceptedTables, inter_spread, inters_of, intra_spread}
 use Rattle.span_tables.specs.near.ByKind.{AreByKind}
 use Rattle.span_tables.specs.near.Limits.{is_readable}
 use Rattle.span_tables.specs.Rules.{keeps_rules}
-use Rattle.span_tables.specs.Tables.{AcceptedTables, inter_spread, inters_of, intra_spread}
 use Rattle.span_tables.specs.Tables.{intras_of, profile_in, rising_by, set_id_in, spots_of, tables_of, tiers_of}
 use Rattle.span_tables.specs.declared.kinds.Kinds.{Kinds}
 use Rattle.span_tables.specs.declared.records.Commodity.{Commodity}

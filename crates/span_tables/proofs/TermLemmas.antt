@@ -1,6 +1,5 @@
 -- The terms of contracts have the fields of the contracts' records.
-use Rattle.std.proofs.Common.{◌≡◌, ℕ, suc, zero, ◌<◌, ◌*◌, ◌≤◌, pos, nat_abs, List, [], ◌∷◌}
-use Rattle.std.proofs.Common.{length, map, refl, ap, ◌∙◌, arith}
+use Rattle.std.proofs.Common.{◌≡◌, ℕ, suc, zero, ◌<◌, ◌*◌, ◌≤◌, pos, nat_abs, List, [], ◌∷◌, length, map, refl, ap, ◌∙◌, arith}
 use Rattle.std.specs.Prelude.{◌*ℤ◌, All, option_map, slice_get, unwrap_or}
 use Rattle.std.proofs.Math.Nat.{mul-le-mul}
 use Rattle.std.proofs.lemmas.Int.{unsigned_abs-mul}

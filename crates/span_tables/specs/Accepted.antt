@@ -1,6 +1,5 @@
 -- The properties of the accepted tables of a parameter set, and of the lists that are computed from them in advance.
-use Rattle.std.specs.Prelude.{◌≡◌, ℕ, ◌<◌, ◌≤◌, true, false, List, length}
-use Rattle.std.specs.Prelude.{◌==◌, bytes_eq, All, nat_abs}
+use Rattle.std.specs.Prelude.{◌≡◌, ℕ, ◌<◌, ◌≤◌, true, false, List, length, ◌==◌, bytes_eq, All, nat_abs}
 use Rattle.std.specs.List.{list_any, position_or_len}
 use Rattle.span_tables.specs.Names.{has_repeat}
 use Rattle.span_tables.specs.Rules.{share_month}

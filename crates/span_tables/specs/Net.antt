@@ -1,6 +1,5 @@
 -- Net quantities, and the contracts that an account holds.
-use Rattle.std.specs.Prelude.{ℕ, Bool, not, ◌&&◌, ◌==◌, List, map, filter, filter_map}
-use Rattle.std.specs.Prelude.{Option, option_map, slice_get, bytes_eq, ℤ, nat_abs}
+use Rattle.std.specs.Prelude.{ℕ, Bool, not, ◌&&◌, ◌==◌, List, map, filter, filter_map, Option, option_map, slice_get, bytes_eq, ℤ, nat_abs}
 use Rattle.std.specs.List.{enumerate_from}
 use Rattle.span_money.specs.Numbers.{int_sum_by}
 use Rattle.span_tables.specs.Names.{distinct}

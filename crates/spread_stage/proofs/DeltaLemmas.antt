@@ -1,7 +1,6 @@
 -- The month deltas, computed one held contract at a time.
 use Rattle.std.proofs.Common.{◌≡◌, ℕ, ◌+◌, ◌<◌, ◌≤◌, Bool, true, false, cond, List, [], ◌∷◌, refl, sym, ap}
-use Rattle.std.proofs.Common.{◌∙◌, subst, arith, filter, map, inl, inr, nat_abs}
-use Rattle.std.proofs.Common.{zero, suc, negsuc, ◌*◌, ◌*ℤ◌, ◌-ℤ◌}
+use Rattle.std.proofs.Common.{◌∙◌, subst, arith, filter, map, inl, inr, nat_abs, zero, suc, negsuc, ◌*◌, ◌*ℤ◌, ◌-ℤ◌}
 use Rattle.std.proofs.Math.IntN.{*ℤ-zero, *ℤ_comm, pred_ℤ-*ℤ, suc_ℤ-*ℤ, zero-*ℤ}
 use Rattle.span_money.proofs.WordLemmas.{product_size}
 use Rattle.span_tables.specs.declared.limits.TheConstants.{MAX_DELTA, MAX_NET, MAX_SCALE}

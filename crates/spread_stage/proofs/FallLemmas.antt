@@ -1,6 +1,5 @@
 -- How sides and remaining deltas fall when they are used.
-use Rattle.std.proofs.Common.{◌≡◌, ℕ, ◌+◌, ◌-◌, ◌≤◌, min, Bool, true, false, cond, List, [], ◌∷◌, refl}
-use Rattle.std.proofs.Common.{arith, map, sum_by, fold}
+use Rattle.std.proofs.Common.{◌≡◌, ℕ, ◌+◌, ◌-◌, ◌≤◌, min, Bool, true, false, cond, List, [], ◌∷◌, refl, arith, map, sum_by, fold}
 use Rattle.std.specs.Prelude.{ℤ}
 use Rattle.std.proofs.lemmas.List.Sums.{sum_by-cons}
 use Rattle.span_tables.specs.Sides.{part_on, less_used, spreads_formed}

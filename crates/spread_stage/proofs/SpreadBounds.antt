@@ -10,8 +10,7 @@ use Rattle.span_tables.specs.Accepted.{IsIntra, IsSpot}
 use Rattle.span_tables.specs.Holdings.{AreHeld}
 use Rattle.span_tables.specs.Net.{HeldContract}
 use Rattle.span_tables.specs.Sides.{spreads_formed}
-use Rattle.span_tables.specs.declared.limits.TheConstants.{MAX_DELTA, MAX_HELD, MAX_NET, MAX_RATE, MAX_SCALE}
-use Rattle.span_tables.specs.declared.limits.TheConstants.{MAX_SPOT_MONTHS, MAX_UNITS}
+use Rattle.span_tables.specs.declared.limits.TheConstants.{MAX_DELTA, MAX_HELD, MAX_NET, MAX_RATE, MAX_SCALE, MAX_SPOT_MONTHS, MAX_UNITS}
 use Rattle.span_tables.specs.declared.records.Intra.{Intra}
 use Rattle.span_tables.specs.declared.records.Spot.{Spot}
 use Rattle.span_tables.specs.declared.sides.Direction.{Direction}

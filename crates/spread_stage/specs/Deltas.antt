@@ -1,6 +1,5 @@
 -- Month deltas.
-use Rattle.std.specs.Prelude.{ℕ, ◌==◌, nat_lt, if◌then◌else◌, List, [], ◌∷◌, map, filter, find, unwrap_or, option_map}
-use Rattle.std.specs.Prelude.{ℤ, pos, ◌*ℤ◌}
+use Rattle.std.specs.Prelude.{ℕ, ◌==◌, nat_lt, if◌then◌else◌, List, [], ◌∷◌, map, filter, find, unwrap_or, option_map, ℤ, pos, ◌*ℤ◌}
 use Rattle.span_money.specs.Numbers.{int_sum_by}
 use Rattle.span_tables.specs.Net.{HeldContract}
 use Rattle.spread_stage.specs.declared.months.MonthUnits.{MonthUnits}

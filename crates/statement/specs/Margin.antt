@@ -1,6 +1,5 @@
 -- The statement of two files on a number of workers.
-use Rattle.std.specs.Prelude.{ℕ, List, Result, Err}
-use Rattle.std.specs.Prelude.{if◌then◌else◌, ◌==◌, ◌||◌, nat_lt}
+use Rattle.std.specs.Prelude.{ℕ, List, Result, Err, if◌then◌else◌, ◌==◌, ◌||◌, nat_lt}
 use Rattle.statement_text.specs.declared.faults.SpanFault.{SpanFault}
 use Rattle.statement_text.specs.declared.faults.SpanFault.TheVariants as fault
 use Rattle.worker_pool.specs.declared.batch.TheConstants.{MAX_WORKERS}

@@ -13,8 +13,7 @@ use Rattle.result_book.specs.BookFaults as book_fault
 use Rattle.result_book.specs.BookFaults.{book_text}
 use Rattle.statement_text.specs.declared.faults.SpanFault.{SpanFault}
 use Rattle.statement_text.specs.declared.faults.SpanFault.TheVariants as fault
-use Rattle.statement_text.specs.declared.statuses.TheConstants.{BOOK_REFUSED, OUT_OF_MEMORY}
-use Rattle.statement_text.specs.declared.statuses.TheConstants.{PARAMETERS_REFUSED, POSITIONS_REFUSED, USAGE}
+use Rattle.statement_text.specs.declared.statuses.TheConstants.{BOOK_REFUSED, OUT_OF_MEMORY, PARAMETERS_REFUSED, POSITIONS_REFUSED, USAGE}
 
 -- memory ran out, in any stage
 abbrev pub is_memory : SpanFault → Bool

@@ -2,8 +2,7 @@
 use Rattle.std.specs.Prelude.{◌↔◌}
 use Rattle.std.proofs.Common.{◌≡◌, ℕ, zero, suc, ◌*◌, ◌<◌, ◌≤◌, ◌||◌, Bool, true, false}
 use Rattle.std.proofs.Common.{List, [], ◌∷◌, ◌++◌, length, refl, ap, ◌∙◌, sym, subst, inl, inr, arith}
-use Rattle.std.proofs.Common.{slice_set, slice_index_or, sum_by, map, get_or-set_same, get_or-set_other}
-use Rattle.std.proofs.Common.{length-append, length-set, eq-eqb}
+use Rattle.std.proofs.Common.{slice_set, slice_index_or, sum_by, map, get_or-set_same, get_or-set_other, length-append, length-set, eq-eqb}
 use Rattle.std.proofs.lemmas.Bool.{cases_eq, ne_eqb, true_from_ne_false, false≢true, or_right}
 use Rattle.std.proofs.lemmas.List.Sums.{sum_by-set, sum_by-cons}
 use Rattle.step_scheduler.specs.Jobs.{JobView}

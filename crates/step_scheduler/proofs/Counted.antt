@@ -2,8 +2,7 @@
 use Rattle.std.proofs.Common.{◌≡◌, ℕ, zero, suc, ◌+◌, ◌<◌, ◌≤◌, ◌==◌, Bool, true, false}
 use Rattle.std.proofs.Common.{List, [], ◌∷◌, ◌++◌, length, All, refl, sym, ap, ◌∙◌, subst, inl, inr}
 use Rattle.std.proofs.Common.{arith, slice_index, slice_set, replicate, if◌then◌else◌, eq-eqb, zero-add}
-use Rattle.std.proofs.Common.{add-zero, length-append, get_or-set_same, get_or-set_other, Global}
-use Rattle.std.proofs.Common.{◌*◌, sum_by, Some}
+use Rattle.std.proofs.Common.{add-zero, length-append, get_or-set_same, get_or-set_other, Global, ◌*◌, sum_by, Some}
 use Rattle.std.specs.Prelude.{IsSome}
 use Rattle.std.proofs.lemmas.List.Sums.{sum_by-cons}
 use Rattle.std.proofs.lemmas.Bool.{cases_eq, ne_eqb, false≢true, lt-ltb}

@@ -1,8 +1,7 @@
 -- Counting down the users of a finished step.
 use Rattle.std.proofs.Common.{◌≡◌, ℕ, ◌+◌, ◌-◌, ◌<◌, ◌≤◌, List, [], ◌∷◌}
 use Rattle.std.proofs.Common.{◌++◌, length, take, drop, reverse, refl, sym, ap, ◌∙◌, subst, inl, inr, arith}
-use Rattle.std.proofs.Common.{get_or, slice_index, slice_set, get_or-set_same}
-use Rattle.std.proofs.Common.{get_or-set_other, length-append}
+use Rattle.std.proofs.Common.{get_or, slice_index, slice_set, get_or-set_same, get_or-set_other, length-append}
 use Rattle.std.proofs.lemmas.Bool.{cases_eq, ne_eqb}
 use Rattle.std.proofs.lemmas.List.{take_more, length-set, take-append-drop, get_or_default, get_or-reverse}
 use Rattle.std.proofs.lemmas.List.{length-reverse, reverse-append, take_all}

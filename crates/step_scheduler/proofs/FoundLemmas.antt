@@ -1,6 +1,5 @@
 -- The values of a job's steps that are found when its board is opened.
-use Rattle.std.proofs.Common.{◌≡◌, ◌∙◌, ℕ, ◌<◌, ◌+◌, zero, suc, List, [], ◌∷◌, length}
-use Rattle.std.proofs.Common.{drop, map, sym, ap}
+use Rattle.std.proofs.Common.{◌≡◌, ◌∙◌, ℕ, ◌<◌, ◌+◌, zero, suc, List, [], ◌∷◌, length, drop, map, sym, ap}
 use Rattle.std.proofs.Common.{arith, slice_index_or, slice_set, length-set, option_map, unwrap_or, Global, Some}
 use Rattle.std.proofs.lemmas.List.{get_or-map, length-map}
 use Rattle.std.proofs.lemmas.Option.{slice_get-get_or}

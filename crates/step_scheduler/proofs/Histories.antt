@@ -1,6 +1,5 @@
 -- Lemmas about histories.
-use Rattle.std.proofs.Common.{◌≡◌, ℕ, List, [], ◌∷◌, ◌++◌, ◌||◌, ap}
-use Rattle.std.proofs.Common.{◌∙◌, sym, append_assoc, append-nil, subst}
+use Rattle.std.proofs.Common.{◌≡◌, ℕ, List, [], ◌∷◌, ◌++◌, ◌||◌, ap, ◌∙◌, sym, append_assoc, append-nil, subst}
 use Rattle.std.proofs.Math.Bool.{or_assoc, or-false}
 use Rattle.plan_ir.specs.Plans.{StepView}
 use Rattle.step_scheduler.specs.declared.events.Event.{Event}

@@ -8,10 +8,9 @@ use Rattle.spread_stage.specs.Charges.{delivery_charge, intra_charge}
 use Rattle.spread_stage.specs.Deltas.{month_deltas, net_delta}
 use Rattle.spread_stage.specs.Spreads.{after_spreads, unspread}
 use Rattle.spread_stage.proofs.ClosedLemmas.{after_spreads_of_nothing, delivery_of_nothing}
-use Rattle.inter_credit.specs.Credits.{credit_of, unspread_state}
+use Rattle.inter_credit.specs.Credits.{credit_of, unspread_state, credit_at, state_at}
 use Rattle.inter_credit.specs.OptionValue.{net_value_of}
 use Rattle.inter_credit.specs.Requirement.{minimum_of, requirement_of}
-use Rattle.inter_credit.specs.Credits.{credit_at, state_at}
 use Rattle.inter_credit.specs.declared.commodity_state.CommodityState.{CommodityState}
 use Rattle.inter_credit.proofs.CreditLaws.{credit_zero}
 use Rattle.plan_ir.specs.Figures.{commodity_at, deltas_at, delivery_at, figures_from, figures_of, held_at, inter_states}

@@ -1,6 +1,5 @@
 -- In a run each finished step was taken once, and then finished once.
-use Rattle.std.proofs.Common.{◌≡◌, ◌<◌, ℕ, length, true, List, [], ◌∷◌, ◌++◌, ap, ◌∙◌}
-use Rattle.std.proofs.Common.{subst, append_assoc, inl, inr, if◌then◌else◌}
+use Rattle.std.proofs.Common.{◌≡◌, ◌<◌, ℕ, length, true, List, [], ◌∷◌, ◌++◌, ap, ◌∙◌, subst, append_assoc, inl, inr, if◌then◌else◌}
 use Rattle.std.proofs.lemmas.Bool.{eqb-true, false≢true, or_cases, or_left, or_right}
 use Rattle.plan_ir.specs.Plans.{StepView}
 use Rattle.step_scheduler.specs.declared.events.Event.{Event}

@@ -1,13 +1,11 @@
 -- The values of a run are the meanings of its steps.
-use Rattle.std.proofs.Common.{◌≡◌, ℕ, ◌<◌, ◌==◌, true, List, [], ◌∷◌}
-use Rattle.std.proofs.Common.{◌++◌, length, map, All, refl, sym, ap, ◌∙◌, ◌⊎◌, inl, inr, subst}
+use Rattle.std.proofs.Common.{◌≡◌, ℕ, ◌<◌, ◌==◌, true, List, [], ◌∷◌, ◌++◌, length, map, All, refl, sym, ap, ◌∙◌, ◌⊎◌, inl, inr, subst}
 use Rattle.std.proofs.Common.{append_assoc, append-nil, eq-eqb}
 use Rattle.std.proofs.lemmas.Bool.{cases_eq, eqb-true, ne_eqb, or_cases, or_left, false≢true}
-use Rattle.plan_compiler.specs.Compiled.{Fits}
+use Rattle.plan_compiler.specs.Compiled.{Fits, IsCompiled}
 use Rattle.plan_ir.specs.Plans.{inputs_at, op_at}
 use Rattle.plan_ir.specs.Apply.{value_on}
 use Rattle.plan_ir.specs.declared.values.Value.{Value}
-use Rattle.plan_compiler.specs.Compiled.{IsCompiled}
 use Rattle.step_scheduler.specs.Jobs.{JobView, inputs_for, meaning_at}
 use Rattle.step_scheduler.specs.declared.events.Event.{Event}
 use Rattle.step_scheduler.specs.declared.events.Event.TheVariants.{Take, Finish}

@@ -1,6 +1,5 @@
 -- Runs of a plan.
-use Rattle.std.specs.Prelude.{◌+◌, ◌≡◌, ℕ, ◌<◌, Bool, true, false, ◌||◌, ◌==◌, List, []}
-use Rattle.std.specs.Prelude.{◌∷◌, ◌++◌, length, map, pos}
+use Rattle.std.specs.Prelude.{◌+◌, ◌≡◌, ℕ, ◌<◌, Bool, true, false, ◌||◌, ◌==◌, List, [], ◌∷◌, ◌++◌, length, map, pos}
 use Rattle.std.specs.Prelude.{All, ◌⊎◌, ⊤, if◌then◌else◌}
 use Rattle.plan_ir.specs.Apply.{value_on}
 use Rattle.plan_ir.specs.Plans.{StepView, inputs_at, op_at}

@@ -1,6 +1,5 @@
 -- The portfolio of an order's account before the order, and orders that add up to 0.
-use Rattle.std.proofs.Common.{◌++◌, map, filter, arith, ◌≡◌, ◌∙◌, ℕ, Bool, true}
-use Rattle.std.proofs.Common.{false, cond, List, [], ◌∷◌, Some, None, refl, sym, ap}
+use Rattle.std.proofs.Common.{◌++◌, map, filter, arith, ◌≡◌, ◌∙◌, ℕ, Bool, true, false, cond, List, [], ◌∷◌, Some, None, refl, sym, ap}
 use Rattle.std.specs.Prelude.{bytes_eq, find, option_map, pos, unwrap_or}
 use Rattle.std.specs.List.{enumerate_from}
 use Rattle.std.proofs.lemmas.Int.{ints}

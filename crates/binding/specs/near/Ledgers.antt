@@ -1,7 +1,6 @@
 -- The entries of each account, with the accounts in the order of first appearance.
 use Rattle.std.specs.Prelude.{◌≡◌, ◌≤◌, ◌-◌, ◌&&◌, ℕ, ℤ, Bool, false, nat_le, nat_lt, not, if◌then◌else◌}
-use Rattle.std.specs.Prelude.{List, drop, filter, length, map, take}
-use Rattle.std.specs.Prelude.{Option, Some, None, bytes_eq}
+use Rattle.std.specs.Prelude.{List, drop, filter, length, map, take, Option, Some, None, bytes_eq}
 use Rattle.std.specs.List.{list_any, position_or_len}
 use Rattle.span_tables.specs.Names.{has_repeat}
 use Rattle.span_tables.specs.Net.{accounts_of}

@@ -1,8 +1,7 @@
 -- The faults of a parameter record part by part, the counts that its limits refer to, and the profile that determines
 -- its forms.
 use Rattle.std.specs.Prelude.{◌≡◌, ℕ, ◌+◌, Bool, not, ◌&&◌, if◌then◌else◌, List, [], ◌∷◌}
-use Rattle.std.specs.Prelude.{length, map, count_by, Some, None, option_map, is_none, unwrap_or}
-use Rattle.std.specs.Prelude.{codes, bytes_eq, Result}
+use Rattle.std.specs.Prelude.{length, map, count_by, Some, None, option_map, is_none, unwrap_or, codes, bytes_eq, Result}
 use Rattle.std.specs.HashMap.{HashMap, get}
 use Rattle.span_tables.specs.Faults.{first_of, first_that_holds, ok_unless}
 use Rattle.span_tables.specs.declared.records.Record.{Record}

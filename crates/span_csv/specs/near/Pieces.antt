@@ -1,6 +1,5 @@
 -- A position file read in pieces: the records of each piece, and their numbers in the whole file.
-use Rattle.std.specs.Prelude.{◌≡◌, ℕ, ◌<◌, ◌≤◌, All, true, List, flat_map, fold, length, nat_abs}
-use Rattle.std.specs.Prelude.{bytes_eq, slice_index_or, Option}
+use Rattle.std.specs.Prelude.{◌≡◌, ℕ, ◌<◌, ◌≤◌, All, true, List, flat_map, fold, length, nat_abs, bytes_eq, slice_index_or, Option}
 use Rattle.std.specs.List.{position_or_len}
 use Rattle.std.specs.Result.{result_ok}
 use Rattle.span_tables.specs.Names.{is_among}

@@ -1,7 +1,6 @@
 -- The conditions on the records of a parameter file without a fault: field ranges, counts, and the fields of the
 -- profile.
-use Rattle.std.specs.Prelude.{ℕ, Bool, false, not, ◌&&◌, ◌||◌, ◌==◌, nat_le, List, []}
-use Rattle.std.specs.Prelude.{◌∷◌, length, count_by, is_some, bytes_eq, nat_abs}
+use Rattle.std.specs.Prelude.{ℕ, Bool, false, not, ◌&&◌, ◌||◌, ◌==◌, nat_le, List, [], ◌∷◌, length, count_by, is_some, bytes_eq, nat_abs}
 use Rattle.std.specs.List.{list_all}
 use Rattle.span_tables.specs.Names.{is_name}
 use Rattle.span_money.specs.Numbers.{is_month}

@@ -1,6 +1,5 @@
 -- The terms of contracts, from which figures are computed.
-use Rattle.std.specs.Prelude.{◌≡◌, ◌≤◌, ◌*◌, ℕ, ◌*ℤ◌, pos, nat_abs, List}
-use Rattle.std.specs.Prelude.{length, map, All, option_map, slice_get, unwrap_or}
+use Rattle.std.specs.Prelude.{◌≡◌, ◌≤◌, ◌*◌, ℕ, ◌*ℤ◌, pos, nat_abs, List, length, map, All, option_map, slice_get, unwrap_or}
 use Rattle.span_tables.specs.Accepted.{commodity_number}
 use Rattle.span_tables.specs.declared.contracts.Terms.{Terms}
 use Rattle.span_tables.specs.declared.limits.TheConstants.{MAX_ARRAY_VALUE, MAX_DELTA, MAX_OPTION_VALUE, MAX_SCALE, SCENARIOS}

@@ -1,7 +1,5 @@
 -- Counters of missing inputs, and the list of ready steps.
-use Rattle.std.specs.Prelude.{◌≡◌, ℕ, ◌+◌, ◌<◌, ◌≤◌, ◌==◌, Bool, true, List, [], ◌∷◌}
-use Rattle.std.specs.Prelude.{length, All, slice_index}
-use Rattle.std.specs.Prelude.{if◌then◌else◌}
+use Rattle.std.specs.Prelude.{◌≡◌, ℕ, ◌+◌, ◌<◌, ◌≤◌, ◌==◌, Bool, true, List, [], ◌∷◌, length, All, slice_index, if◌then◌else◌}
 use Rattle.plan_ir.specs.Plans.{StepView, inputs_at}
 use Rattle.plan_compiler.specs.near.Beginnings.{times}
 use Rattle.step_scheduler.specs.declared.progress.Progress.{Progress}

@@ -1,5 +1,4 @@
-use Rattle.std.proofs.Common.{◌≡◌, ◌+◌, ◌*◌, ◌≤◌, ◌∙◌, ap, sym, arith, lit<, take, nat_abs, rules}
-use Rattle.std.proofs.Common.{pos, ◌+ℤ◌, ◌*ℤ◌, FitsSigned, to_z, w64}
+use Rattle.std.proofs.Common.{◌≡◌, ◌+◌, ◌*◌, ◌≤◌, ◌∙◌, ap, sym, arith, lit<, take, nat_abs, rules, pos, ◌+ℤ◌, ◌*ℤ◌, FitsSigned, to_z, w64}
 use Rattle.std.proofs.lemmas.Int.{ints, to_z-of_z}
 use Rattle.span_money.proofs.WordLemmas.{same_64}
 use Rattle.inter_credit.specs.OptionValue.{net_value_of}

@@ -1,5 +1,5 @@
-use Rattle.std.proofs.Common.{◌≡◌, ◌∙◌, [], List, ap, refl, rules}
-use Rattle.desks.specs.Desks.{Deals, DealsAt, dealing}
+use Rattle.std.proofs.Common.{◌≡◌, [], List, refl, rules}
+use Rattle.desks.specs.Desks.{DealsAt, dealing}
 use Rattle.desks.specs.Events.{Event, Logs}
 use Rattle.desks.proofs.DealingLemmas.{nothing_dealt}
 use Rattle.span_cli.proofs.SessionLemmas.{serves_session, some_logged}

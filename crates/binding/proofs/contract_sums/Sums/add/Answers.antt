@@ -1,5 +1,4 @@
-use Rattle.std.proofs.Common.{◌≡◌, ◌<◌, ◌≤◌, ◌/◌, ◌∙◌, ap, sym, subst, get_or}
-use Rattle.std.proofs.Common.{set, length, arith, rules, SFits, pos, ℤ, ◌+ℤ◌, to_z, of_z}
+use Rattle.std.proofs.Common.{◌≡◌, ◌<◌, ◌≤◌, ◌/◌, ◌∙◌, ap, sym, subst, get_or, set, length, arith, rules, SFits, pos, ℤ, ◌+ℤ◌, to_z, of_z}
 use Rattle.std.specs.Int.{w32, w128}
 use Rattle.std.proofs.lemmas.Int.{to_z-of_z}
 use Rattle.std.proofs.lemmas.List.{set_past, length-set, get_or_default}

@@ -1,4 +1,4 @@
-use Rattle.std.proofs.Common.{◌≡◌, [], ap, sym}
+use Rattle.std.proofs.Common.{[], ap, sym}
 use Rattle.plan_compiler.specs.Compiled.{SetView}
 use Rattle.session.proofs.session.Session.over.Goals as goal
 
