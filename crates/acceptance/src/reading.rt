@@ -7,8 +7,7 @@ ghost use Rattle.std.specs.Prelude.{◌≡◌, IfOk, IfSome, List, Ok, Some, fla
 
 use span_csv::cuts::cut_at_lines;
 use span_csv::faults::PositionFault;
-use span_csv::pieces::{Piece, read_piece};
-use span_csv::positions::read_positions;
+use span_csv::positions::{read_piece, read_positions};
 use span_csv::together::AllAccounts;
 use span_tables::raw::RawPositions;
 use span_tables::records::NumberedPosition;
@@ -17,7 +16,7 @@ use std::thread;
 use std::thread::Threads;
 
 // The records of each of these pieces, read one after the other. `None` if one of them has a fault.
-fn read_in_turn(alloc: Global, pieces: &[&[u8]]) -> Result<Option<Vec<Piece>>, AllocError>
+fn read_in_turn(alloc: Global, pieces: &[&[u8]]) -> Result<Option<Vec<RawPositions>>, AllocError>
     ensures { IfOk result (λ answer. IfSome answer (λ read. map Some read.items ≡ map (λ piece. piece_of piece.now) pieces.now)) }
 {
     let mut read = Vec::with_capacity(alloc, pieces.len())?;
@@ -37,7 +36,7 @@ fn read_pieces<R: Threads + Sync>(
     rt: &R,
     alloc: Global,
     pieces: &[&[u8]],
-) -> Result<Option<Vec<Piece>>, AllocError>
+) -> Result<Option<Vec<RawPositions>>, AllocError>
     ensures { IfOk result (λ answer. IfSome answer (λ read. map Some read.items ≡ map (λ piece. piece_of piece.now) pieces.now)) }
 {
     if pieces.len() < 2 {
@@ -46,11 +45,11 @@ fn read_pieces<R: Threads + Sync>(
     let (front, back) = pieces.split_at(pieces.len() / 2);
     let (first, second) = thread::join(
         rt,
-        || -> Result<Option<Vec<Piece>>, AllocError>
+        || -> Result<Option<Vec<RawPositions>>, AllocError>
             ensures { IfOk result (λ answer. IfSome answer (λ read.
                 map Some read.items ≡ map (λ piece. piece_of piece.now) front.entry.now)) }
         { read_pieces(rt, alloc, front) },
-        || -> Result<Option<Vec<Piece>>, AllocError>
+        || -> Result<Option<Vec<RawPositions>>, AllocError>
             ensures { IfOk result (λ answer. IfSome answer (λ read.
                 map Some read.items ≡ map (λ piece. piece_of piece.now) back.entry.now)) }
         { read_pieces(rt, alloc, back) },
@@ -69,7 +68,7 @@ fn read_pieces<R: Threads + Sync>(
 fn number_one(
     alloc: Global,
     accounts: &AllAccounts,
-    piece: Option<Piece>,
+    piece: Option<RawPositions>,
 ) -> Result<Vec<NumberedPosition>, AllocError>
     requires { HasAccounts accounts.now (records_together (option_to_list piece)) }
     ensures { IfOk result (λ records. StandFor accounts.now (records_together (option_to_list piece)) records.items) }
@@ -87,7 +86,7 @@ fn number_pieces<R: Threads + Sync>(
     rt: &R,
     alloc: Global,
     accounts: &AllAccounts,
-    pieces: Vec<Piece>,
+    pieces: Vec<RawPositions>,
 ) -> Result<Vec<NumberedPosition>, AllocError>
     requires { HasAccounts accounts.now (records_together pieces.items) }
     ensures { IfOk result (λ records. StandFor accounts.now (records_together pieces.items) records.items) }

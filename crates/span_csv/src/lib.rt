@@ -14,7 +14,6 @@ pub mod order_laws;
 pub mod orders;
 pub mod param_laws;
 pub mod params;
-pub mod pieces;
 mod plain_positions;
 pub mod position_laws;
 pub mod positions;

@@ -4,6 +4,7 @@ ghost use Rattle.std.specs.Prelude.{OnOk, Ok, Err, length};
 ghost use Rattle.span_csv.specs.PositionFaults.{is_memory, position_faults, positions_of, record_fault};
 ghost use Rattle.span_csv.specs.Records.{Fields};
 ghost use Rattle.span_csv.specs.near.NumberedReading.{next_position};
+ghost use Rattle.span_csv.specs.near.Pieces.{piece_of};
 ghost use Rattle.span_csv.specs.near.RecordReading.{records_after};
 ghost use Rattle.span_csv.specs.near.Telling.{accounts_counted, CheckIs, Tells};
 ghost use Rattle.span_tables.specs.Faults.{all_faults};
@@ -90,6 +91,18 @@ pub fn read_positions(alloc: Global, bytes: &[u8]) -> Result<RawPositions, Posit
     let mut records: Vec<NumberedPosition> = Vec::new(alloc);
     read_rows(&mut rows, &mut row, &mut accounts, &mut records)?;
     Ok(RawPositions::new(accounts, records))
+}
+
+/// Reads the records of a piece of a position file. Returns `None` exactly if the piece by itself has a fault: one of
+/// Q1 to Q4, or Q5 for its own accounts. Calling [`read_positions`] on the whole file then finds the fault of the file.
+pub fn read_piece(alloc: Global, bytes: &[u8]) -> Result<Option<RawPositions>, AllocError>
+    ensures { IfOk result (λ piece. piece ≡ piece_of bytes.now) }
+{
+    match read_positions(alloc, bytes) {
+        Ok(piece) => Ok(Some(piece)),
+        Err(PositionFault::OutOfMemory) => Err(AllocError),
+        Err(_) => Ok(None),
+    }
 }
 
 // Checks the record with number `at` after others. `accounts` has the accounts of the earlier counted records. The

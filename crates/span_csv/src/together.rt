@@ -4,7 +4,6 @@ ghost use Rattle.span_csv.specs.near.Pieces.{place_among, renumbered, with_names
 ghost use Rattle.span_tables.specs.near.Positions.{named_positions, AreNumbered};
 ghost use Rattle.span_tables.specs.declared.limits.TheConstants.{MAX_ACCOUNTS};
 
-use crate::pieces::Piece;
 use indexmap::IndexSet;
 use span_tables::limits::MAX_ACCOUNTS;
 use span_tables::name::Name;
@@ -81,13 +80,13 @@ fn renumber(places: &[u16], records: &mut [NumberedPosition])
 impl AllAccounts {
     /// Returns the accounts of these pieces, or `None` exactly if there are more than `MAX_ACCOUNTS`. Then the file has
     /// a fault, which [`read_positions`](crate::positions::read_positions) finds in the whole file.
-    pub fn of(alloc: Global, pieces: &[Piece]) -> Result<Option<AllAccounts>, AllocError>
+    pub fn of(alloc: Global, pieces: &[RawPositions]) -> Result<Option<AllAccounts>, AllocError>
         ensures found { IfOk result (λ found. IfSome found (λ all. AreTogether all pieces.now)) }
         ensures none { IfOk result (λ found. found ≡ None → (all : List (List ℕ)) → AreTogether all pieces.now → ⊥) }
     {
         let mut accounts = IndexSet::new(alloc);
         for piece in pieces {
-            add_names(piece.accounts.as_slice(), &mut accounts)?;
+            add_names(piece.accounts(), &mut accounts)?;
         }
         if accounts.len() > MAX_ACCOUNTS {
             return Ok(None);
@@ -96,16 +95,16 @@ impl AllAccounts {
     }
 
     /// Returns the records of a piece, numbered by these accounts, which include the piece's accounts.
-    pub fn numbered(&self, alloc: Global, piece: Piece) -> Result<Vec<NumberedPosition>, AllocError>
+    pub fn numbered(
+        &self,
+        alloc: Global,
+        piece: RawPositions,
+    ) -> Result<Vec<NumberedPosition>, AllocError>
         requires { HasAccounts self.now piece }
         ensures { IfOk result (λ records. StandFor self.now piece records.items) }
     {
-        let Piece {
-            accounts: names,
-            records,
-        } = piece;
-        let places = places_of(alloc, &self.accounts, names.as_slice())?;
-        let mut records = records;
+        let places = places_of(alloc, &self.accounts, piece.accounts())?;
+        let mut records = piece.into_records();
         renumber(&places, &mut records);
         Ok(records)
     }

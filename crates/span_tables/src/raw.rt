@@ -106,6 +106,15 @@ impl RawPositions {
     {
         &self.records
     }
+
+    /// Returns the records in file order, by value, with the numbers of their accounts.
+    pub fn into_records(self) -> Vec<NumberedPosition>
+        ensures value { named_positions (accounts_of self) result.items ≡ self }
+        ensures known { All (λ p. p.account < length (accounts_of self)) result.items }
+        ensures small { All (λ p. nat_abs p.quantity ≤ MAX_QUANTITY) result.items }
+    {
+        self.records
+    }
 }
 
 /// The records of an order file without a fault, in file order. In contract clauses it is the list of records.

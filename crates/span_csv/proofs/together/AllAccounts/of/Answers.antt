@@ -1,5 +1,4 @@
 use Rattle.std.proofs.Common.{◌∙◌, ◌<◌, ap, arith, length, rules}
-use Rattle.span_tables.specs.Net.{accounts_of}
 use Rattle.span_csv.proofs.TogetherLaws.{accounts_more}
 use Rattle.span_csv.proofs.together.AllAccounts.of.Goals as goal
 
@@ -9,6 +8,6 @@ loop-piece-preserved c =
     let i = c.loop-piece.piece-index in
     let piece = c.piece-item.result in
     let lt : i < length pieces = omega arith in
-    let names = c.piece.invariant.accounts_are ∙ ap accounts_of c.piece.view_is in
+    let names = c.accounts.ensures.value in
     accounts_more pieces i piece lt c.piece-item.is c.loop-piece.accounts.keys _ c.add_names.new.accounts.keys
     c.loop-piece.invariant names (search rules)
