@@ -35,18 +35,18 @@ fn next_record(tally: &mut Tally, earlier: usize, row: &Row) -> Result<Record, P
     Ok(record)
 }
 
-// Appends each row of a file to `records`, which is empty before.
-fn read_params_onto<'a>(
+// Returns the records of a file.
+fn params_in<'a>(
+    alloc: Global,
     rows: &mut Rows<'a>,
     row: &mut Row<'a>,
     tally: &mut Tally,
-    records: &mut Vec<Record>,
-) -> Result<(), ParamFault>
-    requires none { records.old.items ≡ [] }
-    requires tallied { Tallies tally.old [] }
-    ensures { MatchResult result (λ _. params_in rows.old ≡ Ok records.new.items)
+) -> Result<Vec<Record>, ParamFault>
+    requires { Tallies tally.old [] }
+    ensures { MatchResult result (λ records. params_in rows.old ≡ Ok records.items)
         (λ e. MatchBool (is_memory e) ⊤ (params_in rows.old ≡ Err e)) }
 {
+    let mut records = Vec::new(alloc);
     while rows.next(row)? {
         let record = next_record(tally, records.len(), row)?;
         records.push(record)?;
@@ -54,7 +54,18 @@ fn read_params_onto<'a>(
     if records.is_empty() {
         return Err(ParamFault::NoSet { at: 0 });
     }
-    Ok(())
+    Ok(records)
+}
+
+// Returns the records of a file with these bytes.
+fn read_records(alloc: Global, bytes: &[u8]) -> Result<Vec<Record>, ParamFault>
+    ensures { MatchResult result (λ records. params_of bytes.now ≡ Ok records.items)
+        (λ e. MatchBool (is_memory e) ⊤ (params_of bytes.now ≡ Err e)) }
+{
+    let mut rows = Rows::new(alloc, bytes);
+    let mut row = Row::new(alloc);
+    let mut tally = Tally::new(alloc);
+    params_in(alloc, &mut rows, &mut row, &mut tally)
 }
 
 /// Reads the records of a parameter file. Fails with the lowest-numbered fault, P1 to P8, of the first record that has
@@ -62,12 +73,7 @@ fn read_params_onto<'a>(
 pub fn read_params(alloc: Global, bytes: &[u8]) -> Result<RawTables, ParamFault>
     ensures { Gives is_memory result (params_of bytes.now) }
 {
-    let mut rows = Rows::new(alloc, bytes);
-    let mut row = Row::new(alloc);
-    let mut tally = Tally::new(alloc);
-    let mut records = Vec::new(alloc);
-    read_params_onto(&mut rows, &mut row, &mut tally, &mut records)?;
-    Ok(RawTables::new(records))
+    Ok(RawTables::new(read_records(alloc, bytes)?))
 }
 
 // Appends the fault of a record to `faults`, if the answer for the record is a fault.
@@ -81,27 +87,27 @@ fn tell(answer: Result<Record, ParamFault>, faults: &mut Vec<ParamFault>) -> Res
     }
 }
 
-// Appends the fault of each row of a file to `faults`, which is empty before.
-fn tell_params<'a>(
+// Returns the fault of each row of a file that has one.
+fn faults_in<'a>(
+    alloc: Global,
     rows: &mut Rows<'a>,
     row: &mut Row<'a>,
     tally: &mut Tally,
-    faults: &mut Vec<ParamFault>,
-) -> Result<(), AllocError>
-    requires none { faults.old.items ≡ [] }
+) -> Result<Vec<ParamFault>, AllocError>
     requires tallied { Tallies tally.old [] }
     requires room { length rows.old < 2 ^ 64 }
-    ensures { OnOk result (faults.new.items ≡ faults_in rows.old) }
+    ensures { IfOk result (λ faults. faults.items ≡ faults_in rows.old) }
 {
+    let mut faults = Vec::new(alloc);
     let mut read = 0;
     while rows.next(row)? {
-        tell(next_record(tally, read, row), faults)?;
+        tell(next_record(tally, read, row), &mut faults)?;
         read += 1;
     }
     if read == 0 {
         faults.push(ParamFault::NoSet { at: 0 })?;
     }
-    Ok(())
+    Ok(faults)
 }
 
 /// Returns all faults of a parameter file by rising record number: for each faulty record its lowest-numbered fault, P1
@@ -112,7 +118,5 @@ pub fn param_faults(alloc: Global, bytes: &[u8]) -> Result<Vec<ParamFault>, Allo
     let mut rows = Rows::new(alloc, bytes);
     let mut row = Row::new(alloc);
     let mut tally = Tally::new(alloc);
-    let mut faults = Vec::new(alloc);
-    tell_params(&mut rows, &mut row, &mut tally, &mut faults)?;
-    Ok(faults)
+    faults_in(alloc, &mut rows, &mut row, &mut tally)
 }

@@ -136,24 +136,24 @@ fn tell(
     }
 }
 
-// Appends the fault of each row of a file to `faults`, which is empty before.
-fn tell_rows<'a>(
+// Returns the fault of each row of a file that has one. `accounts` is empty before.
+fn faults_in<'a>(
+    alloc: Global,
     rows: &mut Rows<'a>,
     row: &mut Row<'a>,
     accounts: &mut IndexSet<Name>,
-    faults: &mut Vec<PositionFault>,
-) -> Result<(), AllocError>
-    requires none { faults.old.items ≡ [] }
+) -> Result<Vec<PositionFault>, AllocError>
     requires no_accounts { accounts.old.keys ≡ [] }
     requires room { length rows.old < 2 ^ 64 }
-    ensures { OnOk result (faults.new.items ≡ all_faults record_fault rows.old) }
+    ensures { IfOk result (λ faults. faults.items ≡ all_faults record_fault rows.old) }
 {
+    let mut faults = Vec::new(alloc);
     let mut read = 0;
     while rows.next(row)? {
         read += 1;
-        tell(check_row(read, accounts, row), faults)?;
+        tell(check_row(read, accounts, row), &mut faults)?;
     }
-    Ok(())
+    Ok(faults)
 }
 
 /// Returns all faults of a position file by rising record number: for each faulty record its lowest-numbered fault, Q1
@@ -164,7 +164,5 @@ pub fn position_faults(alloc: Global, bytes: &[u8]) -> Result<Vec<PositionFault>
     let mut rows = Rows::new(alloc, bytes);
     let mut row = Row::new(alloc);
     let mut accounts = IndexSet::new(alloc);
-    let mut faults = Vec::new(alloc);
-    tell_rows(&mut rows, &mut row, &mut accounts, &mut faults)?;
-    Ok(faults)
+    faults_in(alloc, &mut rows, &mut row, &mut accounts)
 }

@@ -1,4 +1,4 @@
-use Rattle.std.proofs.Common.{◌∙◌, ◌<◌, ap, arith, length, rules}
+use Rattle.std.proofs.Common.{◌<◌, arith, length, rules}
 use Rattle.span_csv.proofs.TogetherLaws.{accounts_more}
 use Rattle.span_csv.proofs.together.AllAccounts.of.Goals as goal
 
