@@ -278,24 +278,26 @@ module _ (contracts : List Contract) (portfolios : List AccountHoldings) (record
       ap length ledgers_are ∙ length-map (accounts_of ps) entries ∙ ap (λ xs. length (accounts_of xs)) ps_are
       ∙ ap length (orders_under records) ∙ sym (length-map (orders_in records) (account_of_order records)) ∙ ap length (sym accounts_are)
 
-  module _ (ids : List (List ℕ)) (n : ℕ) (ps : List PositionRecord) (qs : List AccountHoldings) (unknown faults : List BindFault)
-      (excesses : List Excess) (orders found : List KeptOrder)
+  module _ (ids : List (List ℕ)) (ps : List PositionRecord) (qs : List AccountHoldings) (unknown faults : List BindFault)
+      (orders found : List KeptOrder)
       (apart : has_repeat (λ x y. bytes_eq x.id y.id) contracts ≡ false)
       (one : All (λ r. r.account ≡ account_of_order records r.order) records)
-      (ids_are : ids ≡ ids_of contracts) (many : n ≡ length ids) (ps_are : ps ≡ map under_order records) (qs_are : qs ≡ portfolios)
+      (ids_are : ids ≡ ids_of contracts) (ps_are : ps ≡ map under_order records) (qs_are : qs ≡ portfolios)
       (orders_are : orders ≡ map (kept contracts portfolios records) (orders_in records)) (found_is : found ≡ orders)
       (unknown_are : unknown ≡ foreign_faults ids ps)
-      (excesses_are : excesses ≡ map (λ o. excess_of (kept_after n qs o)) found)
-      (faults_are : faults ≡ found_faults ids unknown excesses ps) where
-    all : n ≡ length contracts
-    all = many ∙ ap length ids_are ∙ length-map contracts (λ x. x.id)
+      (faults_are : faults ≡ found_faults ids unknown (map (λ o. excess_of (kept_after (length ids) qs o)) found) ps) where
+    abbrev excesses : List Excess
+    excesses = map (λ o. excess_of (kept_after (length ids) qs o)) found
+
+    counted : length ids ≡ length contracts
+    counted = ap length ids_are ∙ length-map contracts (λ x. x.id)
 
     first_is : option_map order_fault (first_of faults) ≡ order_bind_fault contracts portfolios records
     first_is =
         (λ k. option_map order_fault (first_of ((faults_are ∙ (λ i. found_faults (ids_are i) unknown excesses (ps_are i))) k)))
         ∙ found_first contracts portfolios records apart one orders orders_are unknown excesses
         (unknown_are ∙ (λ i. foreign_faults (ids_are i) (ps_are i)))
-        (excesses_are ∙ (λ i. map (λ o. excess_of (kept_after (all i) (qs_are i) o)) (found_is i)))
+        (λ i. map (λ o. excess_of (kept_after (counted i) (qs_are i) o)) (found_is i))
 
     pub first_given : (f : BindFault) → Some f ≡ first_of faults
         → MatchBool (is_memory (order_fault f)) ⊤ (orders_bound contracts portfolios records ≡ Err (order_fault f))
@@ -306,7 +308,7 @@ module _ (contracts : List Contract) (portfolios : List AccountHoldings) (record
           orders = map (tried_order contracts portfolios records) (orders_in records);
         } in it)) (sym first_is ∙ ap (option_map order_fault) (sym some)))
 
-    module _ (none : None ≡ first_of faults)
+    module _ (n : ℕ) (many : n ≡ length ids) (none : None ≡ first_of faults)
         (before : All (λ (o : KeptOrder). ArePortfolio (portfolio_before qs o.account).holdings) found) where
       portfolio : All (λ (o : KeptOrder). ArePortfolio (portfolio_before portfolios o.account).holdings) orders
       portfolio =
@@ -315,6 +317,9 @@ module _ (contracts : List Contract) (portfolios : List AccountHoldings) (record
 
       no_fault : order_bind_fault contracts portfolios records ≡ None
       no_fault = sym first_is ∙ ap (option_map order_fault) (sym none)
+
+      all : n ≡ length contracts
+      all = many ∙ counted
 
       pub orders_fit : All (IsKept n portfolios) orders
       orders_fit =

@@ -1,10 +1,13 @@
 //! The binding of orders to tables and to the portfolios of accounts.
 pub(crate) mod kept_orders;
 
-ghost use Rattle.std.specs.Prelude.{◌≡◌, ◌<◌, [], IfOk, List, MatchOption, Some, drop, length, map, option_map, slice_get, take};
+ghost use Rattle.std.specs.Prelude.{◌≡◌, ◌≤◌, ◌<◌, [], All, IfOk, List, MatchOption, Some, drop, length, map, option_map, slice_get, take};
 ghost use Rattle.binding.specs.OrderBinding.{is_memory, orders_bound};
-ghost use Rattle.binding.specs.near.Orders.{order_fault};
+ghost use Rattle.binding.specs.near.Holdings.{excess_of, found_faults};
+ghost use Rattle.binding.specs.near.Orders.{HasPlace, kept_after, order_fault, portfolio_before};
 ghost use Rattle.span_tables.specs.Gives.{Gives};
+ghost use Rattle.span_tables.specs.Holdings.{ArePortfolio};
+ghost use Rattle.span_tables.specs.declared.limits.TheConstants.{MAX_CONTRACTS};
 
 use crate::contract_ids::ids_of;
 use crate::contract_sums::Sums;
@@ -15,9 +18,10 @@ use crate::orders::kept_orders::{
     some_of,
 };
 use crate::over_limits::{all_faults, first};
+use indexmap::IndexSet;
 use span_tables::name::Name;
 use span_tables::portfolios::{Portfolio, Portfolios};
-use span_tables::raw::RawOrders;
+use span_tables::raw::{RawOrders, RawPositions};
 use span_tables::tables::Tables;
 use std::alloc::{AllocError, Global};
 use std::marker::Model;
@@ -115,6 +119,27 @@ fn order_fault(fault: BindFault) -> OrderBindFault
     }
 }
 
+// All faults of the records of orders, read as positions. The faults of records of unknown contracts are given.
+fn faults_of(
+    alloc: Global,
+    numbers: &IndexSet<Name>,
+    unknown: Vec<BindFault>,
+    portfolios: &[Portfolio],
+    orders: &[KeptOrder],
+    positions: &RawPositions,
+) -> Result<Vec<BindFault>, AllocError>
+    requires few { length numbers.now.keys ≤ MAX_CONTRACTS }
+    requires places { All (λ o. HasPlace portfolios.now o.account) orders.now }
+    ensures faults { IfOk result (λ faults. faults.items ≡ found_faults numbers.now.keys unknown.items
+        (map (λ o. excess_of (kept_after (length numbers.now.keys) portfolios.now o)) orders.now) positions.now) }
+    ensures before { IfOk result (λ faults. All (λ o. ArePortfolio (portfolio_before portfolios.now o.account).holdings) orders.now) }
+{
+    let contracts = numbers.len() as u32;
+    let mut sums = Sums::new(alloc, contracts)?;
+    let excesses = order_excesses(alloc, &mut sums, contracts, portfolios, orders)?;
+    all_faults(alloc, numbers, unknown, &excesses, positions)
+}
+
 /// Returns the orders of a file, evaluated on the portfolios of accounts, or the fault of the orders, B1 to B3
 /// (docs/FORMATS.md, "Faults").
 pub fn bind_orders(
@@ -126,8 +151,6 @@ pub fn bind_orders(
     ensures { Gives is_memory result (orders_bound tables.now.contracts portfolios records.now) }
 {
     let numbers = ids_of(alloc, tables)?;
-    let contracts = numbers.len() as u32;
-    let mut sums = Sums::new(alloc, contracts)?;
     let positions = records.by_order();
     let gathered = gather(alloc, &numbers, positions)?;
     let held = portfolios.as_slice();
@@ -138,12 +161,12 @@ pub fn bind_orders(
         records.accounts(),
         gathered.ledgers,
     )?;
-    let excesses = order_excesses(alloc, &mut sums, contracts, held, &orders)?;
-    let faults = all_faults(alloc, &numbers, gathered.unknown, &excesses, positions)?;
+    let unknown = gathered.unknown;
+    let faults = faults_of(alloc, &numbers, unknown, held, &orders, positions)?;
     match first(faults) {
         Some(fault) => Err(order_fault(fault)),
         None => Ok(Orders {
-            contracts,
+            contracts: numbers.len() as u32,
             portfolios,
             orders,
         }),

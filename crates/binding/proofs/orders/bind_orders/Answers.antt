@@ -1,8 +1,7 @@
-use Rattle.std.proofs.Common.{◌≡◌, ◌∙◌, ap, subst, sym, Err}
+use Rattle.std.proofs.Common.{◌≡◌, ◌∙◌, subst, sym, Err}
 use Rattle.std.specs.Prelude.{MatchBool, ⊤}
 use Rattle.std.proofs.lemmas.List.Elements.{All-same}
 use Rattle.binding.specs.OrderBinding.{is_memory, orders_bound}
-use Rattle.binding.specs.near.Holdings.{found_faults}
 use Rattle.binding.specs.near.Orders.{all_kept_as, HasPlace}
 use Rattle.binding.specs.declared.faults.OrderBindFault.{OrderBindFault}
 use Rattle.binding.specs.declared.orders.kept_orders.KeptOrder.{KeptOrder}
@@ -16,8 +15,8 @@ kept_orders-requires-clause-accounts c =
     as_many_accounts (contracts_of c.in_ok-numbers.numbers.keys) c.args.portfolios c.args.records.now _ _ _
     c.in_ok-gathered.gathered.ledgers.items c.by_order-positions.ensures c.accounts-2.ensures.value c.in_ok-gathered.ensures.ledgers
 
-pub order_excesses-requires : goal.order_excesses-requires
-order_excesses-requires c =
+pub faults_of-requires-clause-places : goal.faults_of-requires-clause-places
+faults_of-requires-clause-places c =
     let held = c.as_slice-held.result.now in
     let names = c.accounts.result.now in
     let accounts = c.accounts-2.result.now in
@@ -36,11 +35,9 @@ returns-in-Some c =
     c.as_slice-held.ensures c.accounts.ensures.value c.accounts-2.ensures.value c.in_ok-gathered.ensures.ledgers c.in_ok-orders.ensures in
     subst (λ (e : OrderBindFault). MatchBool (is_memory e) ⊤ (orders_bound contracts portfolios records ≡ Err e))
     (sym c.order_fault.ensures)
-    (first_given contracts portfolios records _ _ _ _ _ _ _ _ _ (apart_by_ids contracts ids is c.in_ok-numbers.ensures.known.apart)
-    c.accounts-2.ensures.one (sym is) c.len-contracts.ensures.len c.by_order-positions.ensures c.as_slice-held.ensures kept
-    c.deref.ensures.value c.in_ok-gathered.ensures.unknown c.in_ok-excesses.ensures.excesses (c.in_ok-faults.ensures
-    ∙ ap (λ xs. found_faults ids c.in_ok-gathered.gathered.unknown.items xs c.by_order-positions.result.now)
-    c.deref-2.ensures.value) c.in-Some.fault c.in-Some.ensures)
+    (first_given contracts portfolios records _ _ _ _ _ _ _ (apart_by_ids contracts ids is c.in_ok-numbers.ensures.known.apart)
+    c.accounts-2.ensures.one (sym is) c.by_order-positions.ensures c.as_slice-held.ensures kept
+    c.deref.ensures.value c.in_ok-gathered.ensures.unknown c.in_ok-faults.ensures.faults c.in-Some.fault c.in-Some.ensures)
 
 pub invariant_of-result : goal.invariant_of-result
 invariant_of-result c =
@@ -51,11 +48,9 @@ invariant_of-result c =
     let is = contracts_of_are ids in
     let kept = orders_kept contracts portfolios records _ _ _ _ _ _ _ (sym is) c.by_order-positions.ensures
     c.as_slice-held.ensures c.accounts.ensures.value c.accounts-2.ensures.value c.in_ok-gathered.ensures.ledgers c.in_ok-orders.ensures in
-    orders_fit contracts portfolios records _ _ _ _ _ _ _ _ _ (apart_by_ids contracts ids is c.in_ok-numbers.ensures.known.apart)
-    c.accounts-2.ensures.one (sym is) c.len-contracts.ensures.len c.by_order-positions.ensures c.as_slice-held.ensures kept
-    c.deref.ensures.value c.in_ok-gathered.ensures.unknown c.in_ok-excesses.ensures.excesses (c.in_ok-faults.ensures
-    ∙ ap (λ xs. found_faults ids c.in_ok-gathered.gathered.unknown.items xs c.by_order-positions.result.now)
-    c.deref-2.ensures.value) c.in-None.ensures c.in_ok-excesses.ensures.before
+    orders_fit contracts portfolios records _ _ _ _ _ _ _ (apart_by_ids contracts ids is c.in_ok-numbers.ensures.known.apart)
+    c.accounts-2.ensures.one (sym is) c.by_order-positions.ensures c.as_slice-held.ensures kept
+    c.deref.ensures.value c.in_ok-gathered.ensures.unknown c.in_ok-faults.ensures.faults _ c.len.ensures.len c.in-None.ensures c.in_ok-faults.ensures.before
 
 pub returns-in-None : goal.returns-in-None
 returns-in-None c =
@@ -66,8 +61,6 @@ returns-in-None c =
     let records = c.args.records.now in
     let kept = orders_kept contracts portfolios records _ _ _ _ _ _ _ (sym is) c.by_order-positions.ensures
     c.as_slice-held.ensures c.accounts.ensures.value c.accounts-2.ensures.value c.in_ok-gathered.ensures.ledgers c.in_ok-orders.ensures in
-    orders_given contracts portfolios records _ _ _ _ _ _ _ _ _ (apart_by_ids contracts ids is c.in_ok-numbers.ensures.known.apart)
-    c.accounts-2.ensures.one (sym is) c.len-contracts.ensures.len c.by_order-positions.ensures c.as_slice-held.ensures kept
-    c.deref.ensures.value c.in_ok-gathered.ensures.unknown c.in_ok-excesses.ensures.excesses (c.in_ok-faults.ensures
-    ∙ ap (λ xs. found_faults ids c.in_ok-gathered.gathered.unknown.items xs c.by_order-positions.result.now)
-    c.deref-2.ensures.value) c.in-None.ensures c.in_ok-excesses.ensures.before
+    orders_given contracts portfolios records _ _ _ _ _ _ _ (apart_by_ids contracts ids is c.in_ok-numbers.ensures.known.apart)
+    c.accounts-2.ensures.one (sym is) c.by_order-positions.ensures c.as_slice-held.ensures kept
+    c.deref.ensures.value c.in_ok-gathered.ensures.unknown c.in_ok-faults.ensures.faults _ c.len.ensures.len c.in-None.ensures c.in_ok-faults.ensures.before
