@@ -268,35 +268,35 @@ impl Session {
         &mut self,
         workers: &Workers<'_, R, G>,
         out: &mut Vec<u8>,
-        request: Request<'a>,
+        request: &Request<'a>,
         file: Option<Result<Vec<u8>, ReadFault>>,
     ) -> Result<Change, Refusal<'a>>
         requires empty { out.old.items ≡ [] }
-        requires tradable { IsTradable request }
-        requires read { is_some file ≡ is_some (file_in (Ok (asked_by request))) }
+        requires tradable { IsTradable request.now }
+        requires read { is_some file ≡ is_some (file_in (Ok (asked_by request.now))) }
         ensures same { self.new ≡ self.old }
         ensures answer { Answers (changed self.old) result out.new.items
-            (answer_to self.old (file_given (λ v. v.items) file) (asked_by request.entry)) }
+            (answer_to self.old (file_given (λ v. v.items) file) (asked_by request.now)) }
         ensures fits { IfOk result (ChangeFits self.old) }
     {
         let (alloc, set, accounts) = (self.alloc, &mut *self.set, &self.accounts);
         match request {
             Request::Margin => self.push_margin(workers, out)?,
-            Request::MarginOf { account } => push_margin_of(alloc, out, set, accounts, &account)?,
-            Request::Explain { account } => push_explanation(alloc, out, set, accounts, &account)?,
+            Request::MarginOf { account } => push_margin_of(alloc, out, set, accounts, account)?,
+            Request::Explain { account } => push_explanation(alloc, out, set, accounts, account)?,
             Request::Try {
                 order,
                 account,
                 trades,
-            } => push_try(out, set, accounts, &order, &account, &trades)?,
+            } => push_try(out, set, accounts, order, account, trades)?,
             Request::Fill { account, trades } => {
-                let after = push_fill(out, set, accounts, &account, &trades)?;
+                let after = push_fill(out, set, accounts, account, trades)?;
                 return Ok(Change::Account(after));
             }
             Request::Set { file: name } => {
                 return match file {
                     Some(read) => self.push_set(out, name, read),
-                    None => Err(Refusal::File { name }),
+                    None => Err(Refusal::File { name: *name }),
                 };
             }
             Request::Positions => push_positions(out, set, accounts)?,
@@ -327,19 +327,19 @@ impl Session {
         workers: &Workers<'_, R, G>,
         out: &mut Vec<u8>,
         number: u64,
-        request: Request<'a>,
+        request: &Request<'a>,
         file: Option<Result<Vec<u8>, ReadFault>>,
     ) -> Result<(), Refusal<'a>>
         requires empty { out.old.items ≡ [] }
-        requires tradable { IsTradable request }
-        requires read { is_some file ≡ is_some (file_in (Ok (asked_by request))) }
+        requires tradable { IsTradable request.now }
+        requires read { is_some file ≡ is_some (file_in (Ok (asked_by request.now))) }
         ensures text { OnOk result (out.new.items
-            ≡ answer_text number (answer_to self.old (file_given (λ v. v.items) file) (asked_by request.entry))) }
+            ≡ answer_text number (answer_to self.old (file_given (λ v. v.items) file) (asked_by request.now))) }
         ensures state { OnOk result (self.new
-            ≡ state_after self.old (answer_to self.old (file_given (λ v. v.items) file) (asked_by request.entry))) }
+            ≡ state_after self.old (answer_to self.old (file_given (λ v. v.items) file) (asked_by request.now))) }
         ensures same { OnErr result (self.new ≡ self.old) }
         ensures refused { IfErr result (λ r. MatchBool (is_memory r) ⊤
-            (answer_to self.old (file_given (λ v. v.items) file) (asked_by request.entry) ≡ Err (refused_by r))) }
+            (answer_to self.old (file_given (λ v. v.items) file) (asked_by request.now) ≡ Err (refused_by r))) }
     {
         let change = self.push_lines(workers, out, request, file)?;
         push_done(out, number)?;
@@ -366,7 +366,7 @@ impl Session {
         let answered = match read_request(self.alloc, line) {
             Ok(request) => {
                 let file = read_asked(self.alloc, sources, &request);
-                self.answer_request(workers, out, number, request, file)
+                self.answer_request(workers, out, number, &request, file)
             }
             Err(fault) => Err(refusal_of(fault)),
         };
