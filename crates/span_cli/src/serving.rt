@@ -6,11 +6,13 @@ ghost use Rattle.span_cli.specs.Reads.{ReadsAsked};
 ghost use Rattle.span_cli.specs.Serving.{IsOfRoll, all_read, answer_of_faults, answered, asked_by, done, takes_requests};
 ghost use Rattle.span_cli.specs.Sessions.{around, found_under, reads_under};
 ghost use Rattle.span_cli.specs.Telling.{Serves, TakesInput, Tells};
-ghost use Rattle.span_cli.specs.near.Refusals.{Loads, LoadsAll, MayGive, Opens, TellsSome, given_answer, refusal_line};
+ghost use Rattle.span_cli.specs.near.Refusals.{GivesText, Loads, LoadsAll, MayGive, Opens, TellsSome, given_answer, refusal_line};
 ghost use Rattle.span_cli.specs.near.Refusals.{refusal_status};
 ghost use Rattle.span_cli.specs.near.Requests.{HasFiles};
 ghost use Rattle.span_cli.specs.declared.serving.Refusal.TheVariants as refusal;
 ghost use Rattle.statement.specs.AllFaults.{faults_of};
+ghost use Rattle.statement.specs.Margin.{margin_of};
+ghost use Rattle.statement_text.specs.Gives.{Gives};
 ghost use Rattle.writers.specs.Streams.{Says};
 ghost use Rattle.std.specs.Prelude.{◌≡◌, ◌≤◌, ◌⊎◌, ◌&&◌, IfOk, IfSome, List, Some, false, is_ok, length, map, option_map, ℕ};
 
@@ -142,17 +144,20 @@ struct Given {
     status: u8,
 }
 
-// These bytes with the status of success.
-fn done(text: Vec<u8>) -> Given
-    ensures { given_answer result ≡ done text.items }
+// This text with the status of success, or the fault.
+fn given(text: Result<Vec<u8>, SpanFault>) -> Result<Given, SpanFault>
+    ensures { GivesText text result }
 {
-    Given { text, status: DONE }
+    Ok(Given {
+        text: text?,
+        status: DONE,
+    })
 }
 
 // The lines of all faults of these bytes, with the status of the first fault.
-fn faults_told(alloc: Global, params: &[u8], positions: Option<&[u8]>) -> Result<Given, AllocError>
-    ensures { IfOk result (λ given. given_answer given
-        ≡ answer_of_faults (faults_of params.now (option_map (λ bytes. bytes.now) positions.entry))) }
+fn faults_told(alloc: Global, params: &[u8], positions: Option<&[u8]>) -> Result<Given, SpanFault>
+    ensures { MayGive given_answer result (λ answer.
+        answer ≡ answer_of_faults (faults_of params.now (option_map (λ bytes. bytes.now) positions.entry))) }
 {
     let faults = faults(alloc, params, positions)?;
     Ok(Given {
@@ -184,6 +189,21 @@ fn prefer_freed_memory(alloc: Global) {
     let _block: Result<Vec<u8>, AllocError> = Vec::with_capacity(alloc, 31 << 20);
 }
 
+// The statement of these bytes.
+fn margined<R: Threads + Wait + Clock + Sync, G: Gate>(
+    lent: &ServingMeans<'_, R, G>,
+    params: &[u8],
+    positions: &[u8],
+    workers: usize,
+) -> Result<Vec<u8>, SpanFault>
+    ensures { Gives (λ text. text.items) result (margin_of workers params.now positions.now) }
+{
+    if workers == 1 {
+        prefer_freed_memory(lent.alloc);
+    }
+    margin(lent.rt, lent.alloc, params, positions, workers, lent.gate)
+}
+
 // The answer to a command, from the bytes of its files.
 fn answer<R: Threads + Wait + Clock + Sync, G: Gate>(
     lent: &ServingMeans<'_, R, G>,
@@ -195,31 +215,23 @@ fn answer<R: Threads + Wait + Clock + Sync, G: Gate>(
 {
     let (rt, alloc, gate) = (lent.rt, lent.alloc, lent.gate);
     match (command, files) {
-        (Command::Check, [params]) => Ok(done(check_plain(alloc, params)?)),
-        (Command::Plan, [params]) => Ok(done(plan_plain(alloc, params)?)),
+        (Command::Check, [params]) => given(check_plain(alloc, params)),
+        (Command::Plan, [params]) => given(plan_plain(alloc, params)),
         (Command::Margin(workers), [params, positions]) => {
-            if *workers == 1 {
-                prefer_freed_memory(alloc);
-            }
-            let text = margin(rt, alloc, params, positions, *workers, gate)?;
-            Ok(done(text))
+            given(margined(lent, params, positions, *workers))
         }
         (Command::Explain(account), [params, positions]) => {
-            let text = explain(alloc, params, positions, account.as_ref())?;
-            Ok(done(text))
+            given(explain(alloc, params, positions, account.as_ref()))
         }
         (Command::Roll(workers), [params, next, positions]) => {
-            let text = rolled(lent, params, next, positions, *workers)?;
-            Ok(done(text))
+            given(rolled(lent, params, next, positions, *workers))
         }
         (Command::WhatIf(workers), [params, positions, orders]) => {
-            let text = whatif(rt, alloc, params, positions, orders, *workers, gate)?;
-            Ok(done(text))
+            given(whatif(rt, alloc, params, positions, orders, *workers, gate))
         }
-        (Command::Faults, [params]) => Ok(faults_told(alloc, params, None)?),
+        (Command::Faults, [params]) => faults_told(alloc, params, None),
         (Command::Faults, [params, positions]) => {
-            let given = faults_told(alloc, params, Some(positions.as_slice()))?;
-            Ok(given)
+            faults_told(alloc, params, Some(positions.as_slice()))
         }
         _ => unreachable!(),
     }

@@ -39,6 +39,11 @@ abbrev pub MayGive : {X : Type 0} → (X → Answer) → Result X SpanFault → 
 MayGive view (Ok given) P = P (view given)
 MayGive view (Err e) P = (e ≡ fault.Memory) ⊎ P (answer_of (Err e))
 
+-- the result is the text with the status of success, or the same fault
+abbrev pub GivesText : Result (Vec ℕ Global) SpanFault → Result Given SpanFault → Type 0
+GivesText (Ok text) given = given ≡ Ok (record { text = text; status = DONE })
+GivesText (Err e) given = given ≡ Err e
+
 -- the result of a load is the file, unless memory ran out
 abbrev pub Loads : {X : Type 0} → (X → List ℕ) → List ℕ → File → Result X Refusal → Type 0
 Loads view name file (Ok bytes) = file ≡ Ok (view bytes)
