@@ -38,28 +38,12 @@ more_kinds : (kinds more : Kinds) (k : ErrorKind) → IsAmong k kinds → IsAmon
 more_kinds [] more k among = absurd among
 more_kinds (x ∷ kinds) more k among = among
 
--- ---- the parameter file
+-- ---- the service
 
--- a command whose first file is required makes no request without it
-without_first : (command : CommandWords) (id : Text) (files : List FileWord) (rows : List Row)
-    → command.files ≡ needed (id ∷ []) ++ files → first_of id rows ≡ None → asked_by_words command rows ≡ None
-without_first command id files rows is none = rw (is, none) refl
-
-unless_asked : (b : Bool) (x y : Option Asked) → x ≡ None → y ≡ None → (if b then x else y) ≡ None
-unless_asked true x y is other = is
-unless_asked false x y is other = other
-
--- commands that require the parameter file make no request without it
-none_among : (all : List CommandWords) (name : Text) (rows : List Row) → first_of (codes "PARAMS") rows ≡ None
-    → AllByRecursion (λ c. c.files ≡ needed (codes "PARAMS" ∷ []) ++ drop 1 c.files) all → asked_among all name rows ≡ None
-none_among [] name rows none need = refl
-none_among (c ∷ all) name rows none need =
-    unless_asked (bytes_eq name c.name) (asked_by_words c rows) (asked_among all name rows)
-    (without_first c (codes "PARAMS") (drop 1 c.files) rows need.0 none) (none_among all name rows none need.1)
-
--- every command requires the parameter file
-pub without_params : (name : Text) (rows : List Row) → first_of (codes "PARAMS") rows ≡ None → asked_among commands name rows ≡ None
-without_params name rows none = none_among commands name rows none (refl, (refl, (refl, (refl, (refl, (refl, (refl, (refl, tt))))))))
+-- without a service there is no request
+pub nothing_asked : (files : Option (List Text)) → option_and_then (λ names. (let none : Option Asked = None in none)) files ≡ None
+nothing_asked None = refl
+nothing_asked (Some names) = refl
 
 -- ---- valid arguments
 

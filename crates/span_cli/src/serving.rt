@@ -145,7 +145,7 @@ struct Given {
 }
 
 // This text with the status of success, or the fault.
-fn given(text: Result<Vec<u8>, SpanFault>) -> Result<Given, SpanFault>
+fn given_text(text: Result<Vec<u8>, SpanFault>) -> Result<Given, SpanFault>
     ensures { GivesText text result }
 {
     Ok(Given {
@@ -215,19 +215,19 @@ fn answer<R: Threads + Wait + Clock + Sync, G: Gate>(
 {
     let (rt, alloc, gate) = (lent.rt, lent.alloc, lent.gate);
     match (command, files) {
-        (Command::Check, [params]) => given(check_plain(alloc, params)),
-        (Command::Plan, [params]) => given(plan_plain(alloc, params)),
+        (Command::Check, [params]) => given_text(check_plain(alloc, params)),
+        (Command::Plan, [params]) => given_text(plan_plain(alloc, params)),
         (Command::Margin(workers), [params, positions]) => {
-            given(margined(lent, params, positions, *workers))
+            given_text(margined(lent, params, positions, *workers))
         }
         (Command::Explain(account), [params, positions]) => {
-            given(explain(alloc, params, positions, account.as_ref()))
+            given_text(explain(alloc, params, positions, account.as_ref()))
         }
         (Command::Roll(workers), [params, next, positions]) => {
-            given(rolled(lent, params, next, positions, *workers))
+            given_text(rolled(lent, params, next, positions, *workers))
         }
         (Command::WhatIf(workers), [params, positions, orders]) => {
-            given(whatif(rt, alloc, params, positions, orders, *workers, gate))
+            given_text(whatif(rt, alloc, params, positions, orders, *workers, gate))
         }
         (Command::Faults, [params]) => faults_told(alloc, params, None),
         (Command::Faults, [params, positions]) => {

@@ -9,13 +9,17 @@ ghost use Rattle.span_cli.specs.Sessions.{around};
 ghost use Rattle.span_cli.specs.Telling.{IsMistake, IsShown, RefusesWords, TakesInputFor, no_text_line};
 ghost use Rattle.span_cli.specs.Words.{account_in, account_rule, app_without_commands, asked_among, asked_in, commands, form_kinds};
 ghost use Rattle.span_cli.specs.Words.{is_request, joined_words, kinds_of, number_in, request_in, span_app};
-ghost use Rattle.span_cli.specs.Words.{with_commands, with_rules, workers_in, workers_rule};
-ghost use Rattle.span_cli.specs.near.Rows.{file_rule_of, option_rule, row_app};
+ghost use Rattle.span_cli.specs.Words.{needed, optional, with_commands, with_rules, workers_in, workers_rule};
+ghost use Rattle.span_cli.specs.near.Requests.{HasFiles};
+ghost use Rattle.span_cli.specs.declared.requests.Command.TheVariants as command;
+ghost use Rattle.span_cli.specs.declared.requests.Service.TheVariants as service;
+ghost use Rattle.span_cli.specs.near.Rows.{asked_for, file_rule_of, option_rule, row_app};
 ghost use Rattle.writers.specs.Streams.{Says};
 ghost use Rattle.statement_text.specs.FaultLines.{memory_line};
 ghost use Rattle.std.specs.IoError.{error_kind};
 ghost use Rattle.std.specs.declared.io.ErrorKind.TheVariants as kind;
-ghost use Rattle.std.specs.Prelude.{◌≡◌, ◌≢◌, ◌⊎◌, IfErr, IfOk, List, Some, codes, false, map, option_and_then, option_map, true};
+ghost use Rattle.std.specs.Prelude.{◌≡◌, ◌≢◌, ◌⊎◌, [], ◌∷◌, ◌++◌, IfErr, IfOk, List, Some, codes, false, map};
+ghost use Rattle.std.specs.Prelude.{option_and_then, option_map, true};
 
 use crate::joining::join_words;
 use crate::outputs::{ErrorStream, OutputStream};
@@ -512,46 +516,84 @@ fn account_asked(matches: &ArgMatches<'_>) -> Option<Option<Name>>
     }
 }
 
+// The request for this service and the parameter file.
+fn on_params<'a>(service: Service, matches: &ArgMatches<'a>) -> Option<Request<'a>>
+    requires { HasFiles service 1 }
+    ensures { option_map asked_by result ≡ asked_for service (needed (codes "PARAMS" ∷ [])) (rows_of (found_of matches.now)) }
+{
+    let params = text(matches, PARAMS.id)?;
+    Some(Request::new(service, &[params]))
+}
+
+// The request for this service, the parameter file and the position file.
+fn on_positions<'a>(service: Service, matches: &ArgMatches<'a>) -> Option<Request<'a>>
+    requires { HasFiles service 2 }
+    ensures { option_map asked_by result
+        ≡ asked_for service (needed (codes "PARAMS" ∷ codes "POSITIONS" ∷ [])) (rows_of (found_of matches.now)) }
+{
+    let params = text(matches, PARAMS.id)?;
+    let positions = text(matches, POSITIONS.id)?;
+    Some(Request::new(service, &[params, positions]))
+}
+
+// The request for this service, the parameter file and two more files.
+fn on_three<'a>(
+    service: Service,
+    second: &str,
+    third: &str,
+    matches: &ArgMatches<'a>,
+) -> Option<Request<'a>>
+    requires { HasFiles service 3 }
+    ensures { option_map asked_by result
+        ≡ asked_for service (needed (codes "PARAMS" ∷ second.now ∷ third.now ∷ [])) (rows_of (found_of matches.now)) }
+{
+    let params = text(matches, PARAMS.id)?;
+    let second = text(matches, second)?;
+    let third = text(matches, third)?;
+    Some(Request::new(service, &[params, second, third]))
+}
+
+// The request for the faults of the parameter file, and of the position file if there is one.
+fn for_faults<'a>(matches: &ArgMatches<'a>) -> Option<Request<'a>>
+    ensures { option_map asked_by result ≡ asked_for (service.Once command.Faults)
+        (needed (codes "PARAMS" ∷ []) ++ optional (codes "POSITIONS" ∷ [])) (rows_of (found_of matches.now)) }
+{
+    let params = text(matches, PARAMS.id)?;
+    let faults = Service::Once(requests::Command::Faults);
+    match text(matches, POSITIONS_TOO.id) {
+        Some(positions) => Some(Request::new(faults, &[params, positions])),
+        None => Some(Request::new(faults, &[params])),
+    }
+}
+
 // The request that a command of this name makes.
-#[tactic(auto, using(crate::proofs::WordsLaws::without_params))]
+#[tactic(auto, using(crate::proofs::WordsLaws::nothing_asked))]
 fn request_under<'a>(name: &str, matches: &ArgMatches<'a>) -> Option<Request<'a>>
     ensures { option_map asked_by result ≡ asked_among commands name.now (rows_of (found_of matches.now)) }
 {
-    let file = |file: FileArg| text(matches, file.id);
-    let params = file(PARAMS)?;
-    let request = match name {
-        "margin" => Request::new(
-            Service::Once(requests::Command::Margin(workers_asked(matches)?)),
-            &[params, file(POSITIONS)?],
-        ),
-        "explain" => Request::new(
-            Service::Once(requests::Command::Explain(account_asked(matches)?)),
-            &[params, file(POSITIONS)?],
-        ),
-        "whatif" => Request::new(
-            Service::Once(requests::Command::WhatIf(workers_asked(matches)?)),
-            &[params, file(POSITIONS)?, file(ORDERS)?],
-        ),
-        "session" => Request::new(
-            Service::Session(workers_asked(matches)?),
-            &[params, file(POSITIONS)?],
-        ),
-        "roll" => Request::new(
-            Service::Once(requests::Command::Roll(workers_asked(matches)?)),
-            &[params, file(NEXT)?, file(POSITIONS)?],
-        ),
-        "faults" => match file(POSITIONS_TOO) {
-            Some(positions) => Request::new(
-                Service::Once(requests::Command::Faults),
-                &[params, positions],
-            ),
-            None => Request::new(Service::Once(requests::Command::Faults), &[params]),
-        },
-        "check" => Request::new(Service::Once(requests::Command::Check), &[params]),
-        "plan" => Request::new(Service::Once(requests::Command::Plan), &[params]),
-        _ => return None,
-    };
-    Some(request)
+    match name {
+        "margin" => {
+            let workers = workers_asked(matches)?;
+            on_positions(Service::Once(requests::Command::Margin(workers)), matches)
+        }
+        "explain" => {
+            let account = account_asked(matches)?;
+            on_positions(Service::Once(requests::Command::Explain(account)), matches)
+        }
+        "whatif" => {
+            let service = Service::Once(requests::Command::WhatIf(workers_asked(matches)?));
+            on_three(service, POSITIONS.id, ORDERS.id, matches)
+        }
+        "session" => on_positions(Service::Session(workers_asked(matches)?), matches),
+        "roll" => {
+            let service = Service::Once(requests::Command::Roll(workers_asked(matches)?));
+            on_three(service, NEXT.id, POSITIONS.id, matches)
+        }
+        "faults" => for_faults(matches),
+        "check" => on_params(Service::Once(requests::Command::Check), matches),
+        "plan" => on_params(Service::Once(requests::Command::Plan), matches),
+        _ => None,
+    }
 }
 
 // The request that the matches make, if they make one.

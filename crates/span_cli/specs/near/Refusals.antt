@@ -1,12 +1,13 @@
 -- What the library knows of a rejection.
 use Rattle.std.specs.Prelude.{◌≡◌, ◌⊎◌, ℕ, List, [], ◌∷◌, ◌++◌, Some, None, Result, Ok, Err}
+use Rattle.std.specs.Global.{Global, Vec}
 use Rattle.session.specs.Answers.{opened}
 use Rattle.session.specs.Conversations.{opening_text}
 use Rattle.session.specs.declared.session.Opened.{Opened}
 use Rattle.statement_text.specs.FaultLines.{fault_line, fault_status}
 use Rattle.statement_text.specs.declared.faults.SpanFault.{SpanFault}
 use Rattle.statement_text.specs.declared.faults.SpanFault.TheVariants as fault
-use Rattle.statement_text.specs.declared.statuses.TheConstants.{FILE_FAILED}
+use Rattle.statement_text.specs.declared.statuses.TheConstants.{DONE, FILE_FAILED}
 use Rattle.span_cli.specs.Serving.{Answer, Found, answer_of, file_line, memory, refused}
 use Rattle.span_cli.specs.Telling.{Tells}
 use Rattle.sources.specs.Files.{File}
