@@ -50,7 +50,8 @@ invariant_of-result c =
     c.as_slice-held.ensures c.accounts.ensures.value c.accounts-2.ensures.value c.in_ok-gathered.ensures.ledgers c.in_ok-orders.ensures in
     orders_fit contracts portfolios records _ _ _ _ _ _ _ (apart_by_ids contracts ids is c.in_ok-numbers.ensures.known.apart)
     c.accounts-2.ensures.one (sym is) c.by_order-positions.ensures c.as_slice-held.ensures kept
-    c.deref.ensures.value c.in_ok-gathered.ensures.unknown c.in_ok-faults.ensures.faults _ c.len.ensures.len c.in-None.ensures c.in_ok-faults.ensures.before
+    c.deref.ensures.value c.in_ok-gathered.ensures.unknown c.in_ok-faults.ensures.faults _ c.len.ensures.len
+    c.in-None.ensures c.in_ok-faults.ensures.before
 
 pub returns-in-None : goal.returns-in-None
 returns-in-None c =
@@ -63,4 +64,5 @@ returns-in-None c =
     c.as_slice-held.ensures c.accounts.ensures.value c.accounts-2.ensures.value c.in_ok-gathered.ensures.ledgers c.in_ok-orders.ensures in
     orders_given contracts portfolios records _ _ _ _ _ _ _ (apart_by_ids contracts ids is c.in_ok-numbers.ensures.known.apart)
     c.accounts-2.ensures.one (sym is) c.by_order-positions.ensures c.as_slice-held.ensures kept
-    c.deref.ensures.value c.in_ok-gathered.ensures.unknown c.in_ok-faults.ensures.faults _ c.len.ensures.len c.in-None.ensures c.in_ok-faults.ensures.before
+    c.deref.ensures.value c.in_ok-gathered.ensures.unknown c.in_ok-faults.ensures.faults _ c.len.ensures.len
+    c.in-None.ensures c.in_ok-faults.ensures.before
