@@ -1,6 +1,6 @@
 -- What the library knows of a rejection.
 use Rattle.std.specs.Prelude.{◌≡◌, ◌⊎◌, ℕ, List, [], ◌∷◌, ◌++◌, Some, None, Result, Ok, Err}
-use Rattle.std.specs.Global.{Global, Vec}
+use Rattle.std.specs.Global.{Vec}
 use Rattle.session.specs.Answers.{opened}
 use Rattle.session.specs.Conversations.{opening_text}
 use Rattle.session.specs.declared.session.Opened.{Opened}
@@ -41,7 +41,7 @@ MayGive view (Ok given) P = P (view given)
 MayGive view (Err e) P = (e ≡ fault.Memory) ⊎ P (answer_of (Err e))
 
 -- the result is the text with the status of success, or the same fault
-abbrev pub GivesText : Result (Vec ℕ Global) SpanFault → Result Given SpanFault → Type 0
+abbrev pub GivesText : Result (Vec ℕ) SpanFault → Result Given SpanFault → Type 0
 GivesText (Ok text) given = given ≡ Ok (record { text = text; status = DONE })
 GivesText (Err e) given = given ≡ Err e
 
