@@ -1,7 +1,6 @@
 -- What is written for an answer.
 use Rattle.std.proofs.Common.{◌≡◌, ◌⊎◌, ◌++◌, ℕ, List, [], ◌∷◌, false, true, is_some, Option, Some, None, Result, Ok, Err}
-use Rattle.std.proofs.Common.{Global, Vec, ◌+◌, ◌<◌, ◌&&◌, Bool, refl, sym, subst, ap, append_assoc, inl, inr, length, get_or, map, drop}
-use Rattle.std.proofs.Common.{Bor}
+use Rattle.std.proofs.Common.{◌+◌, ◌<◌, ◌&&◌, Bool, refl, sym, subst, ap, append_assoc, inl, inr, length, get_or, map, drop, Bor}
 use Rattle.std.proofs.lemmas.List.{append-nil, at_drop_more}
 use Rattle.std.specs.Prelude.{IfSome, if◌then◌else◌}
 use Rattle.std.specs.Io.KnownBytes.{Appends}
@@ -28,10 +27,9 @@ use Rattle.span_cli.specs.Telling.{AnswersWords, AreOpened, RefusesWordsBy, Serv
 use Rattle.span_cli.specs.Words.{asked_in, is_request, request_in}
 use Rattle.statement_text.specs.declared.statuses.TheConstants.{DONE, FILE_FAILED, OUT_OF_MEMORY}
 use Rattle.span_cli.specs.Telling as telling
-use Rattle.span_cli.specs.near.Refusals.{GivesText, Loads, MayGive, Opens, TellsSome, given_answer, read_then, refusal_answer}
+use Rattle.span_cli.specs.near.Refusals.{Loads, MayGive, Opens, TellsSome, read_then, refusal_answer}
 use Rattle.span_cli.specs.near.Sessions.{TellsSession, texts_from}
 use Rattle.span_cli.specs.declared.requests.Command.{Command}
-use Rattle.span_cli.specs.declared.serving.Given.{Given}
 use Rattle.span_cli.specs.declared.serving.Refusal.{Refusal}
 use Rattle.span_cli.specs.declared.serving.Refusal.TheVariants as refusal
 use Rattle.span_cli.specs.declared.requests.Service.{Service}
@@ -62,12 +60,6 @@ pub of_text : {Y : Type 0} (view : Y → List ℕ) (r : Result Y SpanFault) (mea
 of_text view (Ok y) meant is = ap answer_of (sym is)
 of_text view (Err e) meant (inl wanted) = inl wanted
 of_text view (Err e) meant (inr is) = inr (ap answer_of (sym is.1))
-
--- a text with the status of success
-pub text_given : (P : Answer → Type 0) (text : Result (Vec ℕ Global) SpanFault) (given : Result Given SpanFault) → GivesText text given
-    → MayGive (λ v. done v.items) text P → MayGive given_answer given P
-text_given P (Ok v) given is may = rw is may
-text_given P (Err e) given is may = rw is may
 
 -- the result of a roll
 pub of_roll : {Y : Type 0} (view : Y → List ℕ) (workers : ℕ) (params next positions : List ℕ) (r : Result Y SpanFault)

@@ -6,15 +6,16 @@ ghost use Rattle.span_cli.specs.Reads.{ReadsAsked};
 ghost use Rattle.span_cli.specs.Serving.{IsOfRoll, all_read, answer_of_faults, answered, asked_by, done, takes_requests};
 ghost use Rattle.span_cli.specs.Sessions.{around, found_under, reads_under};
 ghost use Rattle.span_cli.specs.Telling.{Serves, TakesInput, Tells};
-ghost use Rattle.span_cli.specs.near.Refusals.{GivesText, Loads, LoadsAll, MayGive, Opens, TellsSome, given_answer, refusal_line};
+ghost use Rattle.span_cli.specs.near.Refusals.{Loads, LoadsAll, MayGive, Opens, TellsSome, given_answer, refusal_line};
 ghost use Rattle.span_cli.specs.near.Refusals.{refusal_status};
 ghost use Rattle.span_cli.specs.near.Requests.{HasFiles};
+ghost use Rattle.span_cli.specs.declared.requests.Command.TheVariants as commands;
 ghost use Rattle.span_cli.specs.declared.serving.Refusal.TheVariants as refusal;
 ghost use Rattle.statement.specs.AllFaults.{faults_of};
 ghost use Rattle.statement.specs.Margin.{margin_of};
 ghost use Rattle.statement_text.specs.Gives.{Gives};
 ghost use Rattle.writers.specs.Streams.{Says};
-ghost use Rattle.std.specs.Prelude.{◌≡◌, ◌≤◌, ◌⊎◌, ◌&&◌, IfOk, IfSome, List, Some, false, is_ok, length, map, option_map, ℕ};
+ghost use Rattle.std.specs.Prelude.{◌≡◌, ◌≢◌, ◌≤◌, ◌⊎◌, ◌&&◌, IfOk, IfSome, List, Some, false, is_ok, length, map, option_map, ℕ};
 
 use crate::requests::{Command, Request, Service};
 use crate::sessions::serve_session;
@@ -144,16 +145,6 @@ struct Given {
     status: u8,
 }
 
-// This text with the status of success, or the fault.
-fn given_text(text: Result<Vec<u8>, SpanFault>) -> Result<Given, SpanFault>
-    ensures { GivesText text result }
-{
-    Ok(Given {
-        text: text?,
-        status: DONE,
-    })
-}
-
 // The lines of all faults of these bytes, with the status of the first fault.
 fn faults_told(alloc: Global, params: &[u8], positions: Option<&[u8]>) -> Result<Given, SpanFault>
     ensures { MayGive given_answer result (λ answer.
@@ -204,6 +195,37 @@ fn margined<R: Threads + Wait + Clock + Sync, G: Gate>(
     margin(lent.rt, lent.alloc, params, positions, workers, lent.gate)
 }
 
+// The text of the answer to a command other than `faults`. Its status is success.
+#[tactic(auto, using(crate::proofs::ServingLemmas::of_text))]
+fn text_of<R: Threads + Wait + Clock + Sync, G: Gate>(
+    lent: &ServingMeans<'_, R, G>,
+    command: &Command,
+    files: &[Vec<u8>],
+) -> Result<Vec<u8>, SpanFault>
+    requires files { HasFiles (Service.Once command.now) (length files.now) }
+    requires command { command.now ≢ commands.Faults }
+    ensures { MayGive (λ text. done text.items) result (answered command.now (map (λ file. file.items) files.now)) }
+{
+    let (rt, alloc, gate) = (lent.rt, lent.alloc, lent.gate);
+    match (command, files) {
+        (Command::Check, [params]) => check_plain(alloc, params),
+        (Command::Plan, [params]) => plan_plain(alloc, params),
+        (Command::Margin(workers), [params, positions]) => margined(
+            lent, params, positions, *workers,
+        ),
+        (Command::Explain(account), [params, positions]) => {
+            explain(alloc, params, positions, account.as_ref())
+        }
+        (Command::Roll(workers), [params, next, positions]) => {
+            rolled(lent, params, next, positions, *workers)
+        }
+        (Command::WhatIf(workers), [params, positions, orders]) => {
+            whatif(rt, alloc, params, positions, orders, *workers, gate)
+        }
+        _ => unreachable!(),
+    }
+}
+
 // The answer to a command, from the bytes of its files.
 fn answer<R: Threads + Wait + Clock + Sync, G: Gate>(
     lent: &ServingMeans<'_, R, G>,
@@ -213,27 +235,13 @@ fn answer<R: Threads + Wait + Clock + Sync, G: Gate>(
     requires { HasFiles (Service.Once command.now) (length files.now) }
     ensures { MayGive given_answer result (answered command.now (map (λ file. file.items) files.now)) }
 {
-    let (rt, alloc, gate) = (lent.rt, lent.alloc, lent.gate);
     match (command, files) {
-        (Command::Check, [params]) => given_text(check_plain(alloc, params)),
-        (Command::Plan, [params]) => given_text(plan_plain(alloc, params)),
-        (Command::Margin(workers), [params, positions]) => {
-            given_text(margined(lent, params, positions, *workers))
-        }
-        (Command::Explain(account), [params, positions]) => {
-            given_text(explain(alloc, params, positions, account.as_ref()))
-        }
-        (Command::Roll(workers), [params, next, positions]) => {
-            given_text(rolled(lent, params, next, positions, *workers))
-        }
-        (Command::WhatIf(workers), [params, positions, orders]) => {
-            given_text(whatif(rt, alloc, params, positions, orders, *workers, gate))
-        }
-        (Command::Faults, [params]) => faults_told(alloc, params, None),
-        (Command::Faults, [params, positions]) => {
-            faults_told(alloc, params, Some(positions.as_slice()))
-        }
-        _ => unreachable!(),
+        (Command::Faults, [params]) => faults_told(lent.alloc, params, None),
+        (Command::Faults, [params, positions]) => faults_told(lent.alloc, params, Some(positions)),
+        _ => Ok(Given {
+            text: text_of(lent, command, files)?,
+            status: DONE,
+        }),
     }
 }
 

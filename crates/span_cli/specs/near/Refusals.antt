@@ -1,13 +1,12 @@
 -- What the library knows of a rejection.
 use Rattle.std.specs.Prelude.{◌≡◌, ◌⊎◌, ℕ, List, [], ◌∷◌, ◌++◌, Some, None, Result, Ok, Err}
-use Rattle.std.specs.Global.{Vec}
 use Rattle.session.specs.Answers.{opened}
 use Rattle.session.specs.Conversations.{opening_text}
 use Rattle.session.specs.declared.session.Opened.{Opened}
 use Rattle.statement_text.specs.FaultLines.{fault_line, fault_status}
 use Rattle.statement_text.specs.declared.faults.SpanFault.{SpanFault}
 use Rattle.statement_text.specs.declared.faults.SpanFault.TheVariants as fault
-use Rattle.statement_text.specs.declared.statuses.TheConstants.{DONE, FILE_FAILED}
+use Rattle.statement_text.specs.declared.statuses.TheConstants.{FILE_FAILED}
 use Rattle.span_cli.specs.Serving.{Answer, Found, answer_of, file_line, memory, refused}
 use Rattle.span_cli.specs.Telling.{Tells}
 use Rattle.sources.specs.Files.{File}
@@ -39,11 +38,6 @@ given_answer given = record { status = given.status; out = given.text.items; err
 abbrev pub MayGive : {X : Type 0} → (X → Answer) → Result X SpanFault → (Answer → Type 0) → Type 0
 MayGive view (Ok given) P = P (view given)
 MayGive view (Err e) P = (e ≡ fault.Memory) ⊎ P (answer_of (Err e))
-
--- the result is the text with the status of success, or the same fault
-abbrev pub GivesText : Result (Vec ℕ) SpanFault → Result Given SpanFault → Type 0
-GivesText (Ok text) given = given ≡ Ok (record { text = text; status = DONE })
-GivesText (Err e) given = given ≡ Err e
 
 -- the result of a load is the file, unless memory ran out
 abbrev pub Loads : {X : Type 0} → (X → List ℕ) → List ℕ → File → Result X Refusal → Type 0
