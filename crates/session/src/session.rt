@@ -327,21 +327,21 @@ impl Session {
         workers: &Workers<'_, R, G>,
         out: &mut Vec<u8>,
         number: u64,
-        request: &Request<'a>,
+        request: Request<'a>,
         file: Option<Result<Vec<u8>, ReadFault>>,
     ) -> Result<(), Refusal<'a>>
         requires empty { out.old.items ≡ [] }
-        requires tradable { IsTradable request.now }
-        requires read { is_some file ≡ is_some (file_in (Ok (asked_by request.now))) }
+        requires tradable { IsTradable request }
+        requires read { is_some file ≡ is_some (file_in (Ok (asked_by request))) }
         ensures text { OnOk result (out.new.items
-            ≡ answer_text number (answer_to self.old (file_given (λ v. v.items) file) (asked_by request.now))) }
+            ≡ answer_text number (answer_to self.old (file_given (λ v. v.items) file) (asked_by request.entry))) }
         ensures state { OnOk result (self.new
-            ≡ state_after self.old (answer_to self.old (file_given (λ v. v.items) file) (asked_by request.now))) }
+            ≡ state_after self.old (answer_to self.old (file_given (λ v. v.items) file) (asked_by request.entry))) }
         ensures same { OnErr result (self.new ≡ self.old) }
         ensures refused { IfErr result (λ r. MatchBool (is_memory r) ⊤
-            (answer_to self.old (file_given (λ v. v.items) file) (asked_by request.now) ≡ Err (refused_by r))) }
+            (answer_to self.old (file_given (λ v. v.items) file) (asked_by request.entry) ≡ Err (refused_by r))) }
     {
-        let change = self.push_lines(workers, out, request, file)?;
+        let change = self.push_lines(workers, out, &request, file)?;
         push_done(out, number)?;
         self.apply(change)?;
         Ok(())
@@ -366,7 +366,7 @@ impl Session {
         let answered = match read_request(self.alloc, line) {
             Ok(request) => {
                 let file = read_asked(self.alloc, sources, &request);
-                self.answer_request(workers, out, number, &request, file)
+                self.answer_request(workers, out, number, request, file)
             }
             Err(fault) => Err(refusal_of(fault)),
         };
