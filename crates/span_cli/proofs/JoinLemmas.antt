@@ -1,5 +1,5 @@
 -- How one more argument changes the joined arguments.
-use Rattle.std.proofs.Common.{◌≡◌, List, [], ◌∷◌, ◌++◌, codes, bytes_eq, refl, sym}
+use Rattle.std.proofs.Common.{◌≡◌, true, false, List, [], ◌∷◌, ◌++◌, codes, bytes_eq, refl, sym}
 use Rattle.std.proofs.lemmas.List.{append-nil, append_assoc}
 use Rattle.clap.specs.Words.{Text}
 use Rattle.span_cli.specs.Words.{joined}

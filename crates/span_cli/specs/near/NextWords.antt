@@ -1,5 +1,5 @@
 -- What is still to be joined, depending on what the next argument may be.
-use Rattle.std.specs.Prelude.{List, codes}
+use Rattle.std.specs.Prelude.{List, ◌∷◌, codes}
 use Rattle.clap.specs.Words.{Text}
 use Rattle.span_cli.specs.Words.{joined, joined_words}
 use Rattle.span_cli.specs.declared.joining.NextWord.{NextWord}

@@ -1,4 +1,4 @@
-use Rattle.std.proofs.Common.{bytes_eq, codes}
+use Rattle.std.proofs.Common.{◌≡◌, true, false, bytes_eq, codes, rules}
 use Rattle.std.proofs.lemmas.List.{map-append}
 use Rattle.span_cli.proofs.JoinLemmas.{any_word, dashes_word}
 use Rattle.span_cli.proofs.joining.push_any.Goals as goal
