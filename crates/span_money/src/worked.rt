@@ -6,6 +6,8 @@ ghost use Rattle.span_money.specs.Numbers.{decimal_number, month_number, whole_n
 /// Decimals and their values, in 10^-4; a whole number and a month.
 pub fn numbers()
     ensures half { decimal_number (codes "0.5") ≡ Some (pos 5000) }
+    ensures minus_one { decimal_number (codes "-1") ≡ Some (neg_ℤ (pos 10000)) }
+    ensures minus_zero { decimal_number (codes "-0") ≡ Some (pos 0) }
     ensures no_fraction { decimal_number (codes "1.") ≡ None }
     ensures below_zero { whole_number (codes "-012") ≡ Some (neg_ℤ (pos 12)) }
     ensures month { month_number (codes "202503") ≡ Some (pos 202503) }
