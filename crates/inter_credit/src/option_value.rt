@@ -7,7 +7,7 @@ ghost use Rattle.inter_credit.specs.declared.option_value.TheConstants.{MAX_NET_
 
 use span_money::amounts::Money;
 use span_tables::contracts::Terms;
-use span_tables::held::HeldRun;
+use span_tables::held::Held;
 use span_tables::limits::{MAX_HELD, MAX_NET, MAX_OPTION_VALUE};
 
 /// The maximum size of the value of a held contract, in minor units: the maximum net quantity times the maximum option
@@ -31,7 +31,7 @@ fn worth(terms: &Terms, net: i64) -> i64
 /// Returns the value of the held contract at index `place`, in minor units: its net quantity times its option value.
 /// The value of a short option is negative.
 #[tactic(auto, using(crate::proofs::ValueLemmas::position_told))]
-pub fn position_value(held: &HeldRun<'_>, place: usize) -> Money
+pub fn position_value(held: &Held<'_>, place: usize) -> Money
     requires { place < length held.now }
     ensures value { IfSome (slice_get held.now place) (λ h. result ≡ position_value h) }
     ensures bound { nat_abs result ≤ MAX_POSITION_VALUE }
@@ -42,7 +42,7 @@ pub fn position_value(held: &HeldRun<'_>, place: usize) -> Money
 /// Returns the option value of a commodity, in minor units: net quantity times option value over the held contracts. It
 /// is negative if short options are worth more than long ones.
 #[tactic(auto, unfolding(crate::specs::OptionValue::net_value_of))]
-pub fn net_value(held: &HeldRun<'_>) -> Money
+pub fn net_value(held: &Held<'_>) -> Money
     ensures value { result ≡ net_value_of held.now }
     ensures bound { nat_abs result ≤ MAX_NET_VALUE }
 {

@@ -6,7 +6,7 @@ ghost use Rattle.inter_credit.specs.Requirement.{is_call, is_put, minimum_of, re
 ghost use Rattle.inter_credit.specs.declared.requirement.TheConstants.{MAX_PART};
 
 use span_money::amounts::{MAX_MONEY, Money};
-use span_tables::held::HeldRun;
+use span_tables::held::Held;
 use span_tables::records::{MinimumMethod, ProductKind};
 
 /// The maximum size of each part of a requirement, in minor units. An amount of money has room for ten parts.
@@ -57,7 +57,7 @@ pub struct ShortCounts {
 
 /// Returns the number of short calls and the number of short puts among the held contracts of a commodity, in
 /// contracts.
-pub fn short_counts(held: &HeldRun<'_>) -> ShortCounts
+pub fn short_counts(held: &Held<'_>) -> ShortCounts
     ensures calls { result.calls ≡ short_count is_call held.now }
     ensures puts { result.puts ≡ short_count is_put held.now }
     ensures bound { result.calls + result.puts ≤ MAX_HELD * MAX_NET }
@@ -74,7 +74,7 @@ pub fn short_counts(held: &HeldRun<'_>) -> ShortCounts
 }
 
 // Returns the count of short option contracts.
-fn short_options(held: &HeldRun<'_>, method: MinimumMethod) -> u64
+fn short_options(held: &Held<'_>, method: MinimumMethod) -> u64
     ensures value { result ≡ short_options method held.now }
     ensures bound { result ≤ MAX_HELD * MAX_NET }
 {
@@ -88,7 +88,7 @@ fn short_options(held: &HeldRun<'_>, method: MinimumMethod) -> u64
 /// Returns the short option minimum, in minor units: the rate (in minor units a contract) times the count of short
 /// option contracts.
 #[tactic(auto, unfolding(crate::specs::Requirement::minimum_of))]
-pub fn minimum(held: &HeldRun<'_>, rate: u32, method: MinimumMethod) -> Money
+pub fn minimum(held: &Held<'_>, rate: u32, method: MinimumMethod) -> Money
     requires { rate ≤ MAX_RATE }
     ensures value { result ≡ pos (minimum_of rate method held.now) }
     ensures bound { nat_abs result ≤ MAX_RATE * (MAX_HELD * MAX_NET) }

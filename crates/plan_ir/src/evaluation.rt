@@ -29,7 +29,7 @@ use scan_risk::Scan;
 use scan_risk::scanning::scan;
 use scan_risk::scenarios::sums;
 use span_money::amounts::Money;
-use span_tables::held::{HeldRun, gather};
+use span_tables::held::{Held, gather};
 use span_tables::portfolios::Portfolio;
 use span_tables::records::{Inter, Intra};
 use span_tables::tables::Tables;
@@ -61,7 +61,7 @@ fn inter_at(tables: &Tables, place: u32) -> &Inter
 }
 
 // The short option minimum of a commodity for its held contracts.
-fn minimum_at(tables: &Tables, commodity: u32, held: &HeldRun<'_>) -> Money
+fn minimum_at(tables: &Tables, commodity: u32, held: &Held<'_>) -> Money
     requires { commodity < length tables.now.commodities }
     ensures { result ≡ pos (minimum_of (commodity_at tables.now commodity).minimum_rate
         (commodity_at tables.now commodity).method held.now) }

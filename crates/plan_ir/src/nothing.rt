@@ -16,7 +16,7 @@ use crate::values::Value;
 use scan_risk::scanning::scan;
 use scan_risk::scenarios::sums;
 use span_money::amounts::Money;
-use span_tables::held::Held;
+use span_tables::held::OwnedHeld;
 use span_tables::limits::SCENARIOS;
 use span_tables::tables::Tables;
 use spread_stage::deltas::month_deltas;
@@ -68,9 +68,9 @@ impl NothingHeld {
     pub fn new(alloc: Global, tables: &Tables) -> Result<NothingHeld, AllocError>
         ensures { IfOk result (λ nothing. nothing ≡ nothing_held) }
     {
-        let held = Held::none(alloc, tables)?;
-        let sums = sums(&held.run());
-        let months = month_deltas(alloc, &held.run())?;
+        let held = OwnedHeld::none(alloc, tables)?;
+        let sums = sums(&held.as_held());
+        let months = month_deltas(alloc, &held.as_held())?;
         let tiers = start(alloc, &months)?;
         Ok(NothingHeld {
             held: Arc::new(alloc, Value::Held(held))?,

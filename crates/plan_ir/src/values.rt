@@ -8,7 +8,7 @@ use crate::figures::Figures;
 use inter_credit::state::InterState;
 use scan_risk::Scan;
 use span_money::amounts::Money;
-use span_tables::held::{Held, HeldRun};
+use span_tables::held::{Held, OwnedHeld};
 use spread_stage::months::Months;
 use spread_stage::tiers::TierState;
 
@@ -16,7 +16,7 @@ use spread_stage::tiers::TierState;
 #[derive(Drop)]
 pub enum Value {
     /// The contracts of a commodity that the account holds, with their net quantities, in contracts.
-    Held(Held),
+    Held(OwnedHeld),
     /// The sums of the scenarios 1 to 16, in minor units.
     Sums([i64; 16]),
     /// The scan of a commodity's sums: scan risk and doubled price risk, in minor units, and two scenarios.
@@ -41,12 +41,12 @@ pub enum Value {
 
 impl Value {
     /// Returns the held contracts. The value must be of that kind.
-    pub fn held(&self) -> HeldRun<'_>
+    pub fn held(&self) -> Held<'_>
         requires { IsHeld self.now }
         ensures { result ≡ held_in self.now }
     {
         match self {
-            Value::Held(held) => held.run(),
+            Value::Held(held) => held.as_held(),
             _ => unreachable!(),
         }
     }

@@ -14,7 +14,7 @@ use sample_files::one_future::PARAMS;
 use sample_sets::files::{set_of, tables_of};
 use scan_risk::Scan;
 use span_money::amounts::Money;
-use span_tables::held::Held;
+use span_tables::held::OwnedHeld;
 use span_tables::tables::Tables;
 use spread_stage::deltas::month_deltas;
 use std::alloc::Global;
@@ -64,8 +64,8 @@ fn is_load_of_nothing(rt: &impl Abort, alloc: Global, tables: &Tables, price2: u
         paired: 2,
         price2,
     };
-    let held = Held::none(alloc, tables).expect(rt, "nothing held");
-    let months = month_deltas(alloc, &held.run()).expect(rt, "no months");
+    let held = OwnedHeld::none(alloc, tables).expect(rt, "nothing held");
+    let months = month_deltas(alloc, &held.as_held()).expect(rt, "no months");
     let mut rest = Vec::new(alloc);
     add_input(rt, alloc, &mut rest, Value::Months(months));
     add_input(rt, alloc, &mut rest, Value::Scan(scan));

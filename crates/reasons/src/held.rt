@@ -11,7 +11,7 @@ use scan_risk::Scan;
 use scan_risk::scanning::scan;
 use scan_risk::scenarios::sums;
 use span_money::line_fields::{Field, push_line, push_number, push_start};
-use span_tables::held::HeldRun;
+use span_tables::held::Held;
 use span_tables::limits::SCENARIOS;
 use span_tables::records::Commodity;
 use span_tables::tables::Tables;
@@ -22,7 +22,7 @@ fn push_held_at(
     out: &mut Vec<u8>,
     ids: &[Field<'_>],
     tables: &Tables,
-    held: &HeldRun<'_>,
+    held: &Held<'_>,
     place: usize,
 ) -> Result<(), AllocError>
     requires { place < length held.now }
@@ -46,7 +46,7 @@ pub(crate) fn push_held(
     out: &mut Vec<u8>,
     ids: &[Field<'_>],
     tables: &Tables,
-    held: &HeldRun<'_>,
+    held: &Held<'_>,
 ) -> Result<(), AllocError>
     ensures { OnOk result (out.new.items
         ≡ out.old.items ++ reasons_text ids.now (map (held_reason tables.now) held.now)) }
@@ -90,7 +90,7 @@ fn push_scan_line(out: &mut Vec<u8>, ids: &[Field<'_>], scan: &Scan) -> Result<(
 pub(crate) fn push_scan(
     out: &mut Vec<u8>,
     ids: &[Field<'_>],
-    held: &HeldRun<'_>,
+    held: &Held<'_>,
 ) -> Result<(), AllocError>
     ensures { OnOk result (out.new.items ≡ out.old.items ++ reasons_text ids.now
         (sums_reason (scenario_sums held.now) ∷ scan_reason (scan_of (scenario_sums held.now)) ∷ [])) }
@@ -105,7 +105,7 @@ pub(crate) fn push_short(
     out: &mut Vec<u8>,
     ids: &[Field<'_>],
     commodity: &Commodity,
-    held: &HeldRun<'_>,
+    held: &Held<'_>,
 ) -> Result<(), AllocError>
     ensures { OnOk result (out.new.items ≡ out.old.items ++ reason_text ids.now (short_reason commodity.now held.now)) }
 {

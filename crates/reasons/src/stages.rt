@@ -15,7 +15,7 @@ use inter_credit::state::{InterState, empty};
 use scan_risk::scanning::scan;
 use scan_risk::scenarios::sums;
 use span_money::line_fields::Field;
-use span_tables::held::{Held, HeldRun, gather_all};
+use span_tables::held::{Held, OwnedHeld, gather_all};
 use span_tables::portfolios::Portfolio;
 use span_tables::sides::SpreadsFormed;
 use span_tables::tables::Tables;
@@ -28,7 +28,7 @@ use std::marker::Model;
 /// their net deltas, residual deltas and weights after all intercommodity spreads, and how many of each spread formed.
 #[derive(Drop)]
 pub struct Stages {
-    held: Vec<Held>,
+    held: Vec<OwnedHeld>,
     state: InterState,
     formed: Vec<SpreadsFormed>,
 }
@@ -46,7 +46,7 @@ fn loaded_states(
     alloc: Global,
     tables: &Tables,
     portfolio: &Portfolio,
-    held: &[Held],
+    held: &[OwnedHeld],
 ) -> Result<InterState, AllocError>
     requires fits { fits (length tables.now.contracts) portfolio.now.holdings ≡ true }
     requires held { held.now ≡ all_held tables.now portfolio.now.holdings }
@@ -57,7 +57,7 @@ fn loaded_states(
     portfolio.known();
     let mut state = empty(alloc, count)?;
     for commodity in 0..count {
-        let of_commodity = held[commodity].run();
+        let of_commodity = held[commodity].as_held();
         let months = month_deltas(alloc, &of_commodity)?;
         let scan = scan(&sums(&of_commodity));
         state.load(commodity, months.net(), scan.price2);
@@ -91,7 +91,7 @@ fn push_month_reasons(
     ids: &[Field<'_>],
     tables: &Tables,
     commodity: usize,
-    held: &HeldRun<'_>,
+    held: &Held<'_>,
 ) -> Result<(), AllocError>
     requires { commodity < length tables.now.commodities }
     ensures { (holdings : List Holding) → held.now ≡ held_at tables.now holdings commodity → OnOk result
@@ -122,7 +122,7 @@ pub fn push_reasons(
     ensures { (holdings : List Holding) → stages.now ≡ stages_of tables.now holdings → OnOk result
         (out.new.items ≡ out.old.items ++ reasons_text ids.now (reasons_of tables.now holdings commodity)) }
 {
-    let held = stages.held[commodity].run();
+    let held = stages.held[commodity].as_held();
     push_held(out, ids, tables, &held)?;
     push_scan(out, ids, &held)?;
     push_month_reasons(alloc, out, ids, tables, commodity, &held)?;

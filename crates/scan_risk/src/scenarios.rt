@@ -6,7 +6,7 @@ ghost use Rattle.span_tables.specs.near.Terms.{IsTerms};
 ghost use Rattle.scan_risk.specs.Scenarios.{scenario_sums};
 
 use span_tables::contracts::Terms;
-use span_tables::held::HeldRun;
+use span_tables::held::Held;
 use span_tables::limits::SCENARIOS;
 use std::simd::{i32x16, i64x16};
 
@@ -49,7 +49,7 @@ fn with_terms(sums: i64x16, terms: i64x16) -> i64x16
 /// Returns the sum of each scenario in its own lane, with scenario 1 in the first lane. It is net quantity times array
 /// value over the held contracts, in minor units, and a loss is positive. The size of a sum is at most `MAX_SUM`, so no
 /// lane wraps.
-pub fn lane_sums(held: &HeldRun<'_>) -> i64x16
+pub fn lane_sums(held: &Held<'_>) -> i64x16
     ensures value { result ≡ scenario_sums held.now }
     ensures bound { All (λ s. nat_abs s ≤ MAX_SUM) result }
 {
@@ -63,7 +63,7 @@ pub fn lane_sums(held: &HeldRun<'_>) -> i64x16
 
 /// Returns the sum of each scenario, from 1 to 16. It is net quantity times array value over the held contracts, in
 /// minor units, and a loss is positive.
-pub fn sums(held: &HeldRun<'_>) -> [i64; SCENARIOS]
+pub fn sums(held: &Held<'_>) -> [i64; SCENARIOS]
     ensures value { result ≡ scenario_sums held.now }
     ensures bound { All (λ s. nat_abs s ≤ MAX_SUM) result }
 {

@@ -1,5 +1,5 @@
 -- The lists that are computed from accepted tables in advance agree with the tables.
-use Rattle.std.proofs.Common.{◌≡◌, ℕ, suc, zero, ◌<◌, true, List, [], ◌∷◌, length, map, filter, get_or, refl, ap, ◌∙◌, arith}
+use Rattle.std.proofs.Common.{◌≡◌, ℕ, suc, zero, ◌<◌, true, List, [], ◌∷◌, Some, length, map, filter, get_or, refl, sym, ap, ◌∙◌, arith}
 use Rattle.std.specs.Prelude.{bytes_eq, option_map, slice_get, unwrap_or}
 use Rattle.std.proofs.lemmas.List.{length-map}
 use Rattle.span_tables.specs.declared.contracts.Terms.{Terms}
@@ -9,7 +9,7 @@ use Rattle.span_tables.specs.Tables.{commodity_id, AcceptedTables, inter_spread,
 use Rattle.span_tables.specs.near.ByKind.{AreByKind}
 use Rattle.span_tables.specs.near.Limits.{is_readable}
 use Rattle.span_tables.specs.Rules.{keeps_rules}
-use Rattle.span_tables.specs.Tables.{intras_of, profile_in, rising_by, set_id_in, spots_of, tables_of, tiers_of}
+use Rattle.span_tables.specs.Tables.{intras_of, rising_by, set_in, spots_of, tables_of, tiers_of}
 use Rattle.span_tables.specs.declared.kinds.Kinds.{Kinds}
 use Rattle.span_tables.specs.declared.records.Commodity.{Commodity}
 use Rattle.span_tables.specs.declared.records.Contract.{Contract}
@@ -18,6 +18,7 @@ use Rattle.span_tables.specs.declared.records.InterRecord.{InterRecord}
 use Rattle.span_tables.specs.declared.records.Intra.{Intra}
 use Rattle.span_tables.specs.declared.records.IntraRecord.{IntraRecord}
 use Rattle.span_tables.specs.declared.records.Record.{Record}
+use Rattle.span_tables.specs.declared.records.SetRecord.{SetRecord}
 use Rattle.span_tables.specs.declared.records.Spot.{Spot}
 use Rattle.span_tables.specs.declared.records.Tier.{Tier}
 use Rattle.span_tables.proofs.WithinLimits.{accepted_limits}
@@ -78,13 +79,15 @@ module _ (t : AcceptedTables) (accepted : IsAccepted t) where
     tiers_are = tiers_at tiers y;
   }
 
--- records by kind, with the spreads sorted, are the records of the tables
-pub same_tables : (rs : List Record) (cs : List Commodity) (xs : List Contract) (ts : List Tier) (is js : List IntraRecord)
-    (ss : List Spot) (ns ms : List InterRecord)
-    → AreByKind rs cs xs ts is ss ns → js ≡ rising_by (λ s. s.priority) is → ms ≡ rising_by (λ s. s.priority) ns
+-- the SET record, and the other records by kind with the spreads sorted, are the records of the tables
+pub same_tables : (rs : List Record) (set : SetRecord) (cs : List Commodity) (xs : List Contract) (ts : List Tier)
+    (is js : List IntraRecord) (ss : List Spot) (ns ms : List InterRecord)
+    → set_in rs ≡ Some set → AreByKind rs cs xs ts is ss ns
+    → js ≡ rising_by (λ s. s.priority) is → ms ≡ rising_by (λ s. s.priority) ns
     → record {
-      set_id = set_id_in rs;
-      profile = profile_in rs;
+      set_id = set.id;
+      profile = set.profile;
+      currency = set.currency;
       commodities = cs;
       contracts = xs;
       tiers = ts;
@@ -93,12 +96,13 @@ pub same_tables : (rs : List Record) (cs : List Commodity) (xs : List Contract) 
       inter_records = ms;
     } ≡ tables_of rs
 unfolding tables_of
-same_tables rs cs xs ts is js ss ns ms are i n =
+same_tables rs set cs xs ts is js ss ns ms first are i n =
     let intras_are = i ∙ ap (rising_by (λ (s : IntraRecord). s.priority)) are.intras_are in
     let inters_are = n ∙ ap (rising_by (λ (s : InterRecord). s.priority)) are.inters_are in
     λ k. record {
-      set_id = set_id_in rs;
-      profile = profile_in rs;
+      set_id = unwrap_or (option_map (λ (s : SetRecord). s.id) (sym first k)) [];
+      profile = unwrap_or (option_map (λ (s : SetRecord). s.profile) (sym first k)) 1;
+      currency = unwrap_or (option_map (λ (s : SetRecord). s.currency) (sym first k)) [];
       commodities = are.commodities_are k;
       contracts = are.contracts_are k;
       tiers = are.tiers_are k;
@@ -106,10 +110,6 @@ same_tables rs cs xs ts is js ss ns ms are i n =
       spots = are.spots_are k;
       inter_records = inters_are k;
     }
-
-pub named_tables : (rs : List Record) (id : List ℕ) (profile : ℕ) (kinds : Kinds) → id ≡ set_id_in rs → profile ≡ profile_in rs
-    → tables_from (set_id_in rs) (profile_in rs) kinds ≡ tables_of rs → tables_from id profile kinds ≡ tables_of rs
-named_tables rs id profile kinds named version same = rw (named, version) same
 
 -- accepted tables, from their parts
 pub accepted_as : (t : AcceptedTables) (rs : List Record) → t ≡ tables_of rs → is_readable rs ≡ true → keeps_rules rs ≡ true

@@ -28,6 +28,7 @@ use Rattle.span_tables.specs.declared.records.ProductKind.TheVariants as product
 pub record AcceptedTables : Type 0 where
   pub set_id : List ℕ
   pub profile : ℕ
+  pub currency : List ℕ
   pub commodities : List Commodity
   pub contracts : List Contract
   pub tiers : List Tier
@@ -57,11 +58,16 @@ set_id_in rs = unwrap_or (option_map (λ s. s.id) (set_in rs)) []
 abbrev pub profile_in : List Record → ℕ
 profile_in rs = unwrap_or (option_map (λ s. s.profile) (set_in rs)) 1
 
+-- the currency of the parameter set
+abbrev pub currency_in : List Record → List ℕ
+currency_in rs = unwrap_or (option_map (λ s. s.currency) (set_in rs)) []
+
 -- the tables of these records
 unfoldable pub tables_of : List Record → AcceptedTables
 tables_of rs = record {
   set_id = set_id_in rs;
   profile = profile_in rs;
+  currency = currency_in rs;
   commodities = commodities_in rs;
   contracts = contracts_in rs;
   tiers = tiers_in rs;

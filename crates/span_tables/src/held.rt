@@ -25,12 +25,12 @@ use std::sync::Arc;
 /// In contract clauses it is the list of the held contracts, each with its whole record. Nothing is copied: the value
 /// borrows the contracts of the tables and the holdings.
 #[derive(Drop)]
-pub struct HeldRun<'a> {
+pub struct Held<'a> {
     contracts: &'a Contracts,
     holdings: &'a [Holding],
 }
 
-impl<'a> Model for HeldRun<'a> {
+impl<'a> Model for Held<'a> {
     ghost use Rattle.std.specs.Prelude.{List};
     ghost use Rattle.span_tables.specs.Holdings.{AreHoldings};
     ghost use Rattle.span_tables.specs.Net.{HeldContract, held_contracts};
@@ -42,14 +42,14 @@ impl<'a> Model for HeldRun<'a> {
     ghost invariant = { λ held. AreHoldings held.contracts.now.records held.holdings.now };
 }
 
-impl<'a> HeldRun<'a> {
+impl<'a> Held<'a> {
     /// Returns the held contracts of these holdings. The holdings are within their limit, each is of a contract of the
     /// tables, and each net is in range.
-    pub fn of(tables: &'a Tables, holdings: &'a [Holding]) -> HeldRun<'a>
+    pub fn of(tables: &'a Tables, holdings: &'a [Holding]) -> Held<'a>
         requires { AreHoldings tables.now.contracts holdings.now }
         ensures { result ≡ held_contracts tables.now.contracts holdings.now }
     {
-        HeldRun {
+        Held {
             contracts: tables.with_terms(),
             holdings,
         }
@@ -96,12 +96,12 @@ impl<'a> HeldRun<'a> {
 /// In contract clauses it is the list of the held contracts, each with its whole record. No record is copied: the value
 /// has a shared reference to the contracts of the tables.
 #[derive(Drop)]
-pub struct Held {
+pub struct OwnedHeld {
     contracts: Arc<Contracts>,
     holdings: Vec<Holding>,
 }
 
-impl Model for Held {
+impl Model for OwnedHeld {
     ghost use Rattle.std.specs.Prelude.{List};
     ghost use Rattle.std.specs.Arc.{arc_value};
     ghost use Rattle.span_tables.specs.Holdings.{AreHoldings};
@@ -114,31 +114,31 @@ impl Model for Held {
     ghost invariant = { λ held. AreHoldings (arc_value held.contracts).records held.holdings.items };
 }
 
-impl Held {
+impl OwnedHeld {
     /// Returns the held contracts of these holdings. The holdings are within their limit, each is of one of these
     /// contracts, and each net and record is in range.
-    pub fn new(contracts: Arc<Contracts>, holdings: Vec<Holding>) -> Held
+    pub fn new(contracts: Arc<Contracts>, holdings: Vec<Holding>) -> OwnedHeld
         requires { AreHoldings (arc_value contracts).records holdings.items }
         ensures { result ≡ held_contracts (arc_value contracts).records holdings.items }
     {
-        Held {
+        OwnedHeld {
             contracts,
             holdings,
         }
     }
 
     /// Returns an empty list of held contracts under these tables.
-    pub fn none(alloc: Global, tables: &Tables) -> Result<Held, AllocError>
+    pub fn none(alloc: Global, tables: &Tables) -> Result<OwnedHeld, AllocError>
         ensures { IfOk result (λ held. held ≡ []) }
     {
-        Ok(Held::new(tables.share_contracts()?, Vec::new(alloc)))
+        Ok(OwnedHeld::new(tables.share_contracts()?, Vec::new(alloc)))
     }
 
     /// Returns the same held contracts, borrowed.
-    pub fn run(&self) -> HeldRun<'_>
+    pub fn as_held(&self) -> Held<'_>
         ensures { result ≡ self.now }
     {
-        HeldRun {
+        Held {
             contracts: &self.contracts,
             holdings: &self.holdings,
         }
@@ -159,7 +159,7 @@ pub fn gather(
     tables: &Tables,
     portfolio: &Portfolio,
     commodity: usize,
-) -> Result<Held, AllocError>
+) -> Result<OwnedHeld, AllocError>
     requires fits { fits (length tables.now.contracts) portfolio.now.holdings ≡ true }
     requires commodity { commodity < length tables.now.commodities }
     ensures { IfOk result (λ held. held ≡ held_of tables.now.contracts portfolio.now.holdings (commodity_id tables.now commodity)) }
@@ -171,7 +171,7 @@ pub fn gather(
             held.push(*holding)?;
         }
     }
-    Ok(Held::new(tables.share_contracts()?, held))
+    Ok(OwnedHeld::new(tables.share_contracts()?, held))
 }
 
 // Returns the holdings of each commodity, indexed by commodity number.
@@ -197,13 +197,13 @@ fn with_records(
     alloc: Global,
     tables: &Tables,
     mut lists: Vec<Vec<Holding>>,
-) -> Result<Vec<Held>, AllocError>
+) -> Result<Vec<OwnedHeld>, AllocError>
     requires { All (λ l. AreHoldings tables.now.contracts l.items) lists.items }
     ensures { IfOk result (λ held. held.items ≡ map (λ l. held_contracts tables.now.contracts l.items) lists.items) }
 {
     let mut all = Vec::with_capacity(alloc, lists.len())?;
     while let Some(holdings) = lists.pop() {
-        all.push(Held::new(tables.share_contracts()?, holdings))?;
+        all.push(OwnedHeld::new(tables.share_contracts()?, holdings))?;
     }
     all.reverse();
     Ok(all)
@@ -215,7 +215,7 @@ pub fn gather_all(
     alloc: Global,
     tables: &Tables,
     portfolio: &Portfolio,
-) -> Result<Vec<Held>, AllocError>
+) -> Result<Vec<OwnedHeld>, AllocError>
     requires { fits (length tables.now.contracts) portfolio.now.holdings ≡ true }
     ensures { IfOk result (λ held. held.items
         ≡ map (λ c. held_of tables.now.contracts portfolio.now.holdings c.id) tables.now.commodities) }

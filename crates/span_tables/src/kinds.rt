@@ -1,13 +1,16 @@
 //! The records of a file by kind.
-ghost use Rattle.std.specs.Prelude.{◌≡◌, ◌++◌, true, IfOk, OnOk, option_to_list};
+ghost use Rattle.std.specs.Prelude.{◌≡◌, ◌++◌, Some, true, IfOk, OnOk, option_to_list};
 ghost use Rattle.span_tables.specs.near.ByKind.{AreByKind};
 ghost use Rattle.span_tables.specs.near.Kept.{tables_from};
 ghost use Rattle.span_tables.specs.near.Limits.{begins_with_set};
 ghost use Rattle.span_tables.specs.Rules.{as_commodity, as_contract, as_inter, as_intra, as_spot, as_tier};
-ghost use Rattle.span_tables.specs.Tables.{profile_in, set_id_in, tables_of};
+ghost use Rattle.span_tables.specs.Tables.{set_in, tables_of};
+ghost use Rattle.span_tables.specs.declared.records.SetRecord.{SetRecord};
 
 use crate::name::Name;
-use crate::records::{Commodity, Contract, InterRecord, IntraRecord, Record, Spot, Tier};
+use crate::records::{
+    Commodity, Contract, InterRecord, IntraRecord, Record, SetRecord, Spot, Tier,
+};
 use std::alloc::{AllocError, Global};
 
 // The records of each kind, in file order.
@@ -75,7 +78,7 @@ fn by_kind(alloc: Global, records: Vec<Record>) -> Result<Kinds, AllocError>
 
 // Returns the records by kind in the order that tables have, with spreads by rising priority.
 pub(crate) fn in_order(alloc: Global, records: Vec<Record>) -> Result<Kinds, AllocError>
-    ensures { IfOk result (λ kinds. tables_from (set_id_in records.items) (profile_in records.items) kinds ≡ tables_of records.items) }
+    ensures { IfOk result (λ kinds. (set : SetRecord) → set_in records.items ≡ Some set → tables_from set kinds ≡ tables_of records.items) }
 {
     let mut kinds = by_kind(alloc, records)?;
     kinds.intras.sort_by_key(|intra| intra.priority)?;
@@ -83,25 +86,21 @@ pub(crate) fn in_order(alloc: Global, records: Vec<Record>) -> Result<Kinds, All
     Ok(kinds)
 }
 
-// Returns the id of the parameter set, from the first record.
-pub(crate) fn set_id(records: &[Record]) -> Name
+// Returns the SET record, which is the first record.
+pub(crate) fn set_record(records: &[Record]) -> SetRecord
     requires { begins_with_set records.now ≡ true }
-    ensures { result ≡ set_id_in records.now }
+    ensures { set_in records.now ≡ Some result }
 {
     match records.first() {
-        Some(Record::Set(set)) => set.id.copied(),
-        _ => Name::default(),
-    }
-}
-
-// Returns the profile of the parameter set, from the first record.
-pub(crate) fn profile(records: &[Record]) -> u8
-    requires { begins_with_set records.now ≡ true }
-    ensures { result ≡ profile_in records.now }
-{
-    if let Some(Record::Set(set)) = records.first() {
-        set.profile
-    } else {
-        1
+        Some(Record::Set(set)) => SetRecord {
+            id: set.id.copied(),
+            profile: set.profile,
+            currency: set.currency,
+        },
+        _ => SetRecord {
+            id: Name::default(),
+            profile: 0,
+            currency: [0; 3],
+        },
     }
 }

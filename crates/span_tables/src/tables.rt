@@ -14,11 +14,13 @@ ghost use Rattle.span_tables.specs.declared.limits.TheConstants.{MAX_INTER_SPREA
 
 use crate::contracts::Contracts;
 use crate::groups::{spots_by_commodity, tiers_by_commodity};
-use crate::kinds::{Kinds, in_order, profile, set_id};
+use crate::kinds::{Kinds, in_order, set_record};
 use crate::name::Name;
 use crate::profiles::{ProfileFacts, facts_of};
 use crate::raw::RawTables;
-use crate::records::{Commodity, Contract, Inter, InterRecord, Intra, IntraRecord, Spot, Tier};
+use crate::records::{
+    Commodity, Contract, Inter, InterRecord, Intra, IntraRecord, SetRecord, Spot, Tier,
+};
 use crate::spreads::{inters_with_numbers, intras_by_commodity};
 use std::alloc::{AllocError, Global};
 use std::marker::Model;
@@ -42,8 +44,7 @@ pub struct Counts {
 /// months and the tiers of each commodity.
 #[derive(Drop)]
 pub struct Tables {
-    set_id: Name,
-    version: u8,
+    set: SetRecord,
     commodities: Vec<Commodity>,
     contracts: Arc<Contracts>,
     tiers: Vec<Tier>,
@@ -65,8 +66,9 @@ impl Model for Tables {
     ghost Value = { AcceptedTables };
 
     ghost view = { λ t. record {
-      set_id = t.set_id;
-      profile = t.version;
+      set_id = t.set.id;
+      profile = t.set.profile;
+      currency = t.set.currency;
       commodities = t.commodities.items;
       contracts = (arc_value t.contracts).records;
       tiers = t.tiers.items;
@@ -77,8 +79,9 @@ impl Model for Tables {
 
     ghost invariant = { λ t. IsTables
         (record {
-          set_id = t.set_id;
-          profile = t.version;
+          set_id = t.set.id;
+          profile = t.set.profile;
+          currency = t.set.currency;
           commodities = t.commodities.items;
           contracts = (arc_value t.contracts).records;
           tiers = t.tiers.items;
@@ -104,21 +107,15 @@ impl Tables {
         requires { keeps_rules raw ≡ true }
         ensures { IfOk result (λ tables. tables ≡ tables_of raw) }
     {
-        let set_id = set_id(raw.records());
-        let profile = profile(raw.records());
+        let set = set_record(raw.records());
         let kinds = in_order(alloc, raw.into_records())?;
-        Tables::with_numbers(alloc, set_id, profile, kinds)
+        Tables::with_numbers(alloc, set, kinds)
     }
 
     // Returns the tables of sorted records, with the months and numbers that the records name.
-    fn with_numbers(
-        alloc: Global,
-        set_id: Name,
-        profile: u8,
-        kinds: Kinds,
-    ) -> Result<Tables, AllocError>
-        requires { IsAccepted (tables_from set_id profile kinds) }
-        ensures { IfOk result (λ tables. tables ≡ tables_from set_id profile kinds) }
+    fn with_numbers(alloc: Global, set: SetRecord, kinds: Kinds) -> Result<Tables, AllocError>
+        requires { IsAccepted (tables_from set kinds) }
+        ensures { IfOk result (λ tables. tables ≡ tables_from set kinds) }
     {
         let records = kinds.contracts;
         let commodities = kinds.commodities.as_slice();
@@ -132,8 +129,7 @@ impl Tables {
         let contracts = Contracts::of(alloc, commodities, records)?;
         let contracts = Arc::new(alloc, contracts)?;
         Ok(Tables {
-            set_id,
-            version: profile,
+            set,
             commodities: kinds.commodities,
             contracts,
             tiers: kinds.tiers,
@@ -151,14 +147,21 @@ impl Tables {
     pub fn set_id(&self) -> &Name
         ensures { result.now ≡ self.now.set_id }
     {
-        &self.set_id
+        &self.set.id
     }
 
     /// Returns the profile of the parameter set, which is the version of its SET record.
     pub fn profile(&self) -> u8
         ensures { result ≡ self.now.profile }
     {
-        self.version
+        self.set.profile
+    }
+
+    /// Returns the currency of the parameter set: three capital letters, such as `USD`.
+    pub fn currency(&self) -> &[u8; 3]
+        ensures { result.now ≡ self.now.currency }
+    {
+        &self.set.currency
     }
 
     /// Returns the properties of the parameter set's profile.
@@ -220,6 +223,27 @@ impl Tables {
         ensures { result.now ≡ self.now.tiers }
     {
         &self.tiers
+    }
+
+    /// Returns the INTRA records of all commodities, by rising priority. Their legs name tiers.
+    pub fn intra_records(&self) -> &[IntraRecord]
+        ensures { result.now ≡ self.now.intra_records }
+    {
+        &self.intra_records
+    }
+
+    /// Returns the SPOT records of all commodities, in file order.
+    pub fn spot_records(&self) -> &[Spot]
+        ensures { result.now ≡ self.now.spots }
+    {
+        &self.spots
+    }
+
+    /// Returns the INTER records, by rising priority. Their legs name commodities.
+    pub fn inter_records(&self) -> &[InterRecord]
+        ensures { result.now ≡ self.now.inter_records }
+    {
+        &self.inter_records
     }
 
     /// Returns the tiers of the commodity with this number, in file order. No two of them share a month.

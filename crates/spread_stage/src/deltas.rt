@@ -10,7 +10,7 @@ ghost use Rattle.spread_stage.specs.near.Uses.{gathered, with_units_last};
 use crate::months::{MonthUnits, Months};
 use span_money::amounts::Units;
 use span_tables::contracts::Terms;
-use span_tables::held::HeldRun;
+use span_tables::held::Held;
 use std::alloc::{AllocError, Global};
 
 // Returns the delta of a net quantity of a contract, in units of 10^-8.
@@ -70,7 +70,7 @@ fn rising(mut months: Vec<MonthUnits>) -> Result<Vec<MonthUnits>, AllocError>
 //
 // If the contracts are in ascending order of month, as they usually are, one pass is enough and nothing is sorted.
 #[tactic(auto, unfolding(crate::specs::Deltas::month_deltas))]
-fn refilled(mut months: Vec<MonthUnits>, held: &HeldRun<'_>) -> Result<Vec<MonthUnits>, AllocError>
+fn refilled(mut months: Vec<MonthUnits>, held: &Held<'_>) -> Result<Vec<MonthUnits>, AllocError>
     ensures value { IfOk result (λ months. months.items ≡ month_deltas held.now) }
     ensures kept { IfOk result (λ months. AreMonths months.items) }
 {
@@ -95,7 +95,7 @@ impl Months {
     /// memory.
     ///
     /// If memory runs out, there are no months.
-    pub fn refill(&mut self, held: &HeldRun<'_>) -> Result<(), AllocError>
+    pub fn refill(&mut self, held: &Held<'_>) -> Result<(), AllocError>
         ensures ok { OnOk result (self.new ≡ month_deltas held.now) }
         ensures err { OnErr result (self.new ≡ []) }
     {
@@ -107,7 +107,7 @@ impl Months {
 
 /// Returns the months (`yyyymm`) in which contracts are held, strictly ascending, each with the sum of its contracts'
 /// deltas in units of 10^-8. Fails if memory runs out.
-pub fn month_deltas(alloc: Global, held: &HeldRun<'_>) -> Result<Months, AllocError>
+pub fn month_deltas(alloc: Global, held: &Held<'_>) -> Result<Months, AllocError>
     ensures { IfOk result (λ months. months ≡ month_deltas held.now) }
 {
     let mut months = Months::none(alloc);

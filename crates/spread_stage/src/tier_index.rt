@@ -40,7 +40,7 @@ fn tier_of(tiers: &[Tier], month: u32) -> usize
 
 impl TierIndex {
     /// Returns the index of tiers. It takes at most `BITS` steps for each tier.
-    pub fn new(tiers: &[Tier]) -> TierIndex
+    pub(crate) fn new(tiers: &[Tier]) -> TierIndex
         requires { length tiers.now ≤ MAX_TIERS }
     {
         let mut index = TierIndex { slots: [0; BITS] };

@@ -25,7 +25,7 @@ use span_csv::together::AllAccounts;
 use span_money::exact::push_exact;
 use span_money::line_fields::{Field, push_line, push_line_of_numbers, push_number, push_start};
 use span_tables::groups::{empty_lists, push_at};
-use span_tables::held::{Held, HeldRun, gather, gather_all};
+use span_tables::held::{Held, OwnedHeld, gather, gather_all};
 use span_tables::name::Name;
 use span_tables::portfolios::{Portfolio, Portfolios};
 use span_tables::raw::RawPositions;
@@ -52,7 +52,7 @@ fn calls_succeed(rt: HostRuntime) -> Result<(), Fail> {
     trades_made(&rt, alloc, &tables, &account)?;
     lists_held(&rt, alloc, &tables, &account)?;
     let held = held_of(&rt, alloc, &tables, &account)?;
-    spreads_of_months(&rt, alloc, &tables, &held.run())?;
+    spreads_of_months(&rt, alloc, &tables, &held.as_held())?;
     spreads_of_commodities(&rt, alloc)
 }
 
@@ -282,7 +282,7 @@ fn lists_held(
 {
     let all = gather_all(alloc, tables, account)?;
     assert_eq!(rt; all.len(), 1);
-    assert_eq!(rt; all[0].run().len(), 2);
+    assert_eq!(rt; all[0].as_held().len(), 2);
     Ok(())
 }
 
@@ -292,13 +292,13 @@ fn held_of(
     alloc: Global,
     tables: &Tables,
     account: &Portfolio,
-) -> Result<Held, AllocError>
+) -> Result<OwnedHeld, AllocError>
     requires { fits (length tables.now.contracts) account.now.holdings ≡ true }
 {
-    assert!(rt; Held::none(alloc, tables)?.is_empty());
+    assert!(rt; OwnedHeld::none(alloc, tables)?.is_empty());
     assert_eq!(rt; tables.commodities().len(), 1);
     let held = gather(alloc, tables, account, 0)?;
-    let run = held.run();
+    let run = held.as_held();
     assert_eq!(rt; run.len(), 2);
     assert_eq!(rt; (run.net(0), run.net(1)), (3, -2));
     Ok(held)
@@ -320,7 +320,7 @@ fn spreads_of_months(
     rt: &impl Abort,
     alloc: Global,
     tables: &Tables,
-    held: &HeldRun<'_>,
+    held: &Held<'_>,
 ) -> Result<(), Fail> {
     let months = month_deltas(alloc, held)?;
     assert!(rt; are_march_and_june(months.as_slice(), 300_000_000, -200_000_000));

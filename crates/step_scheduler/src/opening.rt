@@ -7,7 +7,7 @@ ghost use Rattle.step_scheduler.specs.near.Slots.{StoresMeanings};
 use crate::jobs::Job;
 use plan_compiler::set::CompiledSet;
 use plan_ir::values::Value;
-use span_tables::held::{Held, gather_all};
+use span_tables::held::{OwnedHeld, gather_all};
 use std::alloc::{AllocError, Global};
 use std::sync::Arc;
 
@@ -23,7 +23,7 @@ fn empty(alloc: Global, count: usize) -> Result<Vec<Option<Arc<Value>>>, AllocEr
 }
 
 // Returns held contracts as a value. If there are none, this is the parameter set's shared value for nothing held.
-fn as_value(alloc: Global, set: &CompiledSet, held: Held) -> Result<Arc<Value>, AllocError>
+fn as_value(alloc: Global, set: &CompiledSet, held: OwnedHeld) -> Result<Arc<Value>, AllocError>
     ensures { IfOk result (λ v. arc_value v ≡ value.Held held) }
 {
     if held.is_empty() {

@@ -24,7 +24,7 @@ use plan_ir::figures::Figures;
 use scan_risk::scanning::scan;
 use scan_risk::scenarios::sums;
 use span_money::amounts::Money;
-use span_tables::held::HeldRun;
+use span_tables::held::Held;
 use span_tables::portfolios::{Holding, Portfolio};
 use span_tables::runs::{end_of_run, rise_by_commodity, sort_by_commodity};
 use span_tables::tables::Tables;
@@ -34,7 +34,7 @@ use std::mem;
 
 // Returns the option value of a commodity, or 0 if options have no value.
 #[inline(always)]
-fn worth_of(tables: &Tables, held: &HeldRun<'_>) -> Money
+fn worth_of(tables: &Tables, held: &Held<'_>) -> Money
     ensures { (facts_in tables.now).options_have_value ≡ true → result ≡ net_value_of held.now }
 {
     if !tables.facts().options_have_value {
@@ -50,7 +50,7 @@ fn part_of(
     tables: &Tables,
     plan: &TierPlan,
     commodity: usize,
-    held: &HeldRun<'_>,
+    held: &Held<'_>,
     memory: &mut RunMemory,
 ) -> Result<Part, AllocError>
     requires commodity { commodity < length tables.now.commodities }
@@ -103,7 +103,7 @@ fn parts_of_runs<W: Watch>(
         let commodity = tables.commodity_of(holdings[done].contract);
         upcoming.pass_groups(commodity + 1);
         let end = end_of_run(tables, holdings, done + 1, commodity);
-        let held = HeldRun::of(tables, &holdings[done..end]);
+        let held = Held::of(tables, &holdings[done..end]);
         let part = part_of(tables, &plans[commodity], commodity, &held, memory)?;
         memory.parts.push(part)?;
         done = end;

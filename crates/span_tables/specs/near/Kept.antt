@@ -5,6 +5,7 @@ use Rattle.span_tables.specs.near.Limits.{is_readable}
 use Rattle.span_tables.specs.Tables.{AcceptedTables, tables_of, intras_of, spots_of, tiers_of, inters_of, commodity_id}
 use Rattle.span_tables.specs.declared.kinds.Kinds.{Kinds}
 use Rattle.span_tables.specs.declared.records.Record.{Record}
+use Rattle.span_tables.specs.declared.records.SetRecord.{SetRecord}
 use Rattle.span_tables.specs.declared.records.Spot.{Spot}
 use Rattle.span_tables.specs.declared.records.Intra.{Intra}
 use Rattle.span_tables.specs.declared.records.Inter.{Inter}
@@ -13,11 +14,12 @@ use Rattle.span_tables.specs.Accepted.{IsWithinLimits}
 use Rattle.span_tables.specs.declared.contracts.Terms.{Terms}
 use Rattle.span_tables.specs.near.Terms.{terms_of}
 
--- the tables of records that are listed by kind
-abbrev pub tables_from : List ℕ → ℕ → Kinds → AcceptedTables
-tables_from set_id profile kinds = record {
-  set_id = set_id;
-  profile = profile;
+-- the tables of a SET record and the other records, listed by kind
+abbrev pub tables_from : SetRecord → Kinds → AcceptedTables
+tables_from set kinds = record {
+  set_id = set.id;
+  profile = set.profile;
+  currency = set.currency;
   commodities = kinds.commodities.items;
   contracts = kinds.contracts.items;
   tiers = kinds.tiers.items;

@@ -39,9 +39,9 @@ loop-commodity-preserved c =
     let count = ap length c.commodities-count.ensures.value in
     let lt : i < length t.commodities = omega (arith, count, c.loop-commodity-test.true) in
     let of_i = c.index-held-commodity.result in
-    let held = c.run-of_commodity.result in
+    let held = c.as_held-of_commodity.result in
     let held_is : held ≡ held_at t holdings i =
-    c.run-of_commodity.ensures ∙ (c.index-held-commodity.is ∙ ap (λ hs. get_or hs i of_i) c.requires.held
+    c.as_held-of_commodity.ensures ∙ (c.index-held-commodity.is ∙ ap (λ hs. get_or hs i of_i) c.requires.held
     ∙ held_read t holdings i of_i lt) in
     let net_is : c.net.result ≡ net_delta (month_deltas held) = c.net.ensures.value ∙ ap net_delta c.in_ok-months.ensures in
     let price_is : c.scan-scan.result.price2 ≡ (scan_of (scenario_sums held)).price2 =

@@ -13,11 +13,11 @@ returns c = λ holdings is.
     let i = c.args.commodity in
     let stages = c.stages.view_is ∙ is in
     let read = c.index.result.now in
-    let held = c.run-held.result in
+    let held = c.as_held-held.result in
     let state = c.index-states-commodity.result in
     let commodity = c.index-commodities-commodity.result in
     let held_is : held ≡ held_at t holdings i =
-    c.run-held.ensures ∙ (c.index.ensures ∙ ap (λ hs. get_or hs i read) (ap (λ s. s.held) stages)
+    c.as_held-held.ensures ∙ (c.index.ensures ∙ ap (λ hs. get_or hs i read) (ap (λ s. s.held) stages)
     ∙ held_read t holdings i read c.requires.commodity) in
     let states : c.states.result.now ≡ inter_states t holdings = c.states.ensures.value ∙ ap (λ s. s.states) stages in
     let among : i < length (inter_states t holdings) =

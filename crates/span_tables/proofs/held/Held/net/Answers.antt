@@ -3,7 +3,7 @@ use Rattle.std.proofs.lemmas.Int.{ints}
 use Rattle.std.proofs.lemmas.List.{get_or_default}
 use Rattle.span_tables.specs.declared.limits.TheConstants.{MAX_NET}
 use Rattle.span_tables.proofs.HeldLemmas.{held_len, net_kept, net_told, nothing}
-use Rattle.span_tables.proofs.held.HeldRun.net.Goals as goal
+use Rattle.span_tables.proofs.held.Held.net.Goals as goal
 
 pub bounds-holdings-place : goal.bounds-holdings-place
 bounds-holdings-place c = let long = held_len _ _ _ c.self.view_is c.self.invariant in omega (arith, long, c.requires)

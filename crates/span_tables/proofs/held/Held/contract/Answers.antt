@@ -1,7 +1,7 @@
 use Rattle.std.proofs.Common.{arith, get_or, ◌≡◌}
 use Rattle.std.proofs.lemmas.List.{get_or_default}
 use Rattle.span_tables.proofs.HeldLemmas.{held_len, of_contract, place_known, nothing}
-use Rattle.span_tables.proofs.held.HeldRun.contract.Goals as goal
+use Rattle.span_tables.proofs.held.Held.contract.Goals as goal
 
 pub bounds-self-inside-place : goal.bounds-self-inside-place
 bounds-self-inside-place c = let long = held_len _ _ _ c.self.view_is c.self.invariant in omega (arith, long, c.requires)
