@@ -1,10 +1,13 @@
 //! Test vectors, computed by the definitions. Each is the contract of a function that does nothing.
 #![tactic(auto, unfolding(crate::proofs::OnLiterals::credits_on_literals))]
 
+ghost use Rattle.std.specs.List.{repeat};
 ghost use Rattle.std.specs.Prelude.{◌≡◌, [], ◌∷◌, pos};
+ghost use Rattle.span_tables.specs.declared.limits.TheConstants.{MAX_HELD, MAX_NET, MAX_OPTION_VALUE};
 ghost use Rattle.span_tables.specs.declared.records.MinimumMethod.TheVariants as method;
 ghost use Rattle.span_tables.specs.declared.records.ProductKind.TheVariants as kind;
 ghost use Rattle.inter_credit.specs.Credits.{inter_formed_both, unspread_state};
+ghost use Rattle.inter_credit.specs.declared.option_value.TheConstants.{MAX_NET_VALUE};
 ghost use Rattle.inter_credit.specs.OptionValue.{due_of, excess_of, net_value_of};
 ghost use Rattle.inter_credit.specs.Requirement.{minimum_of, requirement_of};
 ghost use Rattle.inter_credit.specs.near.Samples.{credited, held_with_value, short, spread_of, state_with, two_states};
@@ -44,9 +47,11 @@ fn requirements()
 {}
 
 // The option value of two short calls with three short puts. An option value below 0 is due, and one above the total is
-// an excess.
+// an excess. The greatest option value is of as many of the most valuable calls as an account may hold.
 fn option_values()
     ensures short { net_value_of (held_with_value kind.Call (short 2) 120 ∷ held_with_value kind.Put (short 3) 80 ∷ []) ≡ short 480 }
+    ensures largest { net_value_of (repeat MAX_HELD (held_with_value kind.Call (pos MAX_NET) MAX_OPTION_VALUE ∷ []))
+        ≡ pos MAX_NET_VALUE }
     ensures due { due_of (pos 1700) (short 480) ≡ 2180 }
     ensures excess { excess_of (pos 100) (pos 480) ≡ 380 }
 {}

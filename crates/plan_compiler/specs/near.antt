@@ -3,4 +3,5 @@ pub mod Beginnings
 pub mod Layout
 pub mod OnLiterals
 pub mod Ready
+pub mod Samples
 pub mod Sets

@@ -8,6 +8,7 @@ ghost use Rattle.plan_ir.specs.Plans.{inputs_in, users_of};
 ghost use Rattle.plan_ir.specs.declared.ops.Op.TheVariants as operation;
 ghost use Rattle.plan_compiler.specs.Places.{plan_of};
 ghost use Rattle.plan_compiler.specs.Plan.{ops_of};
+ghost use Rattle.plan_compiler.specs.near.Samples.{two_commodities};
 
 // Without commodities the only steps are the first ones between commodities, of the total, and of the option value.
 fn plan_of_a_set_alone()
@@ -26,4 +27,11 @@ fn plan_with_spreads()
         ∷ [] ∷ (18 ∷ 3 ∷ 2 ∷ []) ∷ (19 ∷ 13 ∷ 12 ∷ []) ∷ (20 ∷ [])
         ∷ [] ∷ (22 ∷ 9 ∷ []) ∷ (23 ∷ 17 ∷ []) ∷ [] }
     ensures users { users_of (plan_of (tables_of small_file)) 21 ≡ 9 ∷ 17 ∷ [] }
+{}
+
+// Of the plan of two commodities with a spread between them: the steps that read the held contracts of the first
+// commodity, and the steps that read the last state between commodities.
+fn users_of_two_commodities()
+    ensures first { users_of (plan_of (tables_of two_commodities)) 0 ≡ 1 ∷ 3 ∷ 6 ∷ [] }
+    ensures last { users_of (plan_of (tables_of two_commodities)) 19 ≡ 7 ∷ 15 ∷ [] }
 {}

@@ -33,9 +33,11 @@ fn all_faults_of_parameters()
         ≡ param.NoSet 1 ∷ param.SecondSet 2 ∷ [] }
 {}
 
-// A first record that is a SET gives its version, if the field is a version, even if the record has a fault.
+// A first record that is a SET gives its version, if the field is a version, even if the record has a fault. There are
+// two versions.
 fn version_of_a_faulty_set()
-    ensures { param_faults (codes "SET,d2,2,USD\nCONTRACT,CA,AA,C,202512,1,1,0,0,0,0,0,0,0,0,0,0,0,0,0,0,0,0\n")
+    ensures third { param_faults (codes "SET,D2,3,USD\n") ≡ param.OutOfRange 1 ∷ [] }
+    ensures name { param_faults (codes "SET,d2,2,USD\nCONTRACT,CA,AA,C,202512,1,1,0,0,0,0,0,0,0,0,0,0,0,0,0,0,0,0\n")
         ≡ param.BadName 1 ∷ param.FieldCount 2 ∷ [] }
 {}
 
