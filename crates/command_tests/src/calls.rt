@@ -37,7 +37,8 @@ fn of_sources<R: Files + Abort>(rt: &R, alloc: Global) {
 
 // Reading a reader to its end, as marked and as a file.
 fn of_readers(rt: &impl Abort, alloc: Global) {
-    let mut reader = MarkedReader::new(b"abc".as_slice());
+    let mut bytes = b"abc".as_slice();
+    let mut reader = MarkedReader::new(&mut bytes, 4);
     let read = read_within(alloc, &mut reader, 3, 3).expect(rt, "bytes");
     assert_eq!(rt; read.as_slice(), b"abc".as_slice());
     let read = read_file(alloc, b"abc".as_slice(), 3).expect(rt, "a file");

@@ -40,10 +40,10 @@ impl Read for Script {
     }
 }
 
-// Reads at most three bytes.
+// Reads at most three bytes, in at most eight reads.
 fn read(alloc: Global, turns: &'static [Turn], last: Turn) -> Result<Vec<u8>, ReadFault> {
-    let script = Script { turns, last, at: 0 };
-    read_within(alloc, &mut MarkedReader::new(script), 3, 3)
+    let mut script = Script { turns, last, at: 0 };
+    read_within(alloc, &mut MarkedReader::new(&mut script, 8), 3, 3)
 }
 
 #[test]
@@ -109,21 +109,40 @@ fn fails_where_a_turn_fails(rt: HostRuntime) {
     assert!(rt; is_refused(alloc, turns, Turn::Ends, ReadFault::Failed));
 }
 
+// A reader that is interrupted forever, one that ends after its reads are used up, and one that ends with its last read.
+#[test]
+fn fails_where_the_turns_run_out(rt: HostRuntime) {
+    let alloc = rt.alloc();
+    assert!(rt; is_refused(alloc, &[], Turn::IsInterrupted, ReadFault::Failed));
+    assert!(rt;
+        is_refused(
+            alloc,
+            &[Turn::Gives(b"abc")],
+            Turn::IsInterrupted,
+            ReadFault::Failed
+        )
+    );
+    let turns = &[Turn::IsInterrupted; 8];
+    assert!(rt; is_refused(alloc, turns, Turn::Ends, ReadFault::Failed));
+    let turns = &[Turn::IsInterrupted; 7];
+    assert!(rt; read(alloc, turns, Turn::Ends).is_ok());
+}
+
 #[test]
 fn remembers_what_failed(rt: HostRuntime) {
     let alloc = rt.alloc();
-    let script = Script {
+    let mut script = Script {
         turns: &[Turn::IsInterrupted],
         last: Turn::Ends,
         at: 0,
     };
-    let mut reader = MarkedReader::new(script);
+    let mut reader = MarkedReader::new(&mut script, 8);
     assert!(rt; read_within(alloc, &mut reader, 3, 3).is_ok() && !reader.failed());
-    let script = Script {
+    let mut script = Script {
         turns: &[],
         last: Turn::Breaks,
         at: 0,
     };
-    let mut reader = MarkedReader::new(script);
+    let mut reader = MarkedReader::new(&mut script, 8);
     assert!(rt; read_within(alloc, &mut reader, 3, 3).is_err() && reader.failed());
 }

@@ -17,7 +17,7 @@ use Rattle.desks.proofs.KeepLemmas.{added_to, request_kept_of}
 use Rattle.desks.proofs.RequestLemmas.{requests_in-last, requests_in-line, whole_lines-at_feed, whole_lines-no_feed}
 
 -- before anything is taken, all bytes are still to be taken
-pub all_coming : (block : List ℕ) (reading : Reading) (bytes : Option (List ℕ)) → block ≡ [] → reading.bytes ≡ bytes
+pub all_coming : {R : Type 0} (block : List ℕ) (reading : Reading R) (bytes : Option (List ℕ)) → block ≡ [] → reading.bytes ≡ bytes
     → coming block reading ≡ bytes
 all_coming block reading bytes none same = rw (none, same) (prepend_known-nil bytes)
 
@@ -36,7 +36,7 @@ from_read block None new read = tt
 from_read block (Some xs) None read = absurd read
 from_read block (Some xs) (Some ys) read = read
 
-module _ (bytes : Option (List ℕ)) (reading : Reading) (block : List ℕ) (line : Kept)
+module _ {R : Type 0} (bytes : Option (List ℕ)) (reading : Reading R) (block : List ℕ) (line : Kept)
     (reads : ReadsLine bytes (coming block reading) line []) where
   -- after the front of the block is added to the line
   reads_front : (front end rest : List ℕ) (next : Kept) → block ≡ (front ++ end) ++ rest → HasNoFeed front → next ≡ added line front
@@ -60,7 +60,7 @@ module _ (bytes : Option (List ℕ)) (reading : Reading) (block : List ℕ) (lin
       reads_front cut.front (10 ∷ []) rest next (cut.bytes ∙ sym (append_assoc cut.front (10 ∷ []) rest)) cut.no_feed cut.line
 
   -- after a block without a line feed, and a read of the next one
-  pub reads_block : (now : Reading) (rest more : List ℕ) (next : Kept) → CutsAll block rest line next
+  pub reads_block : (now : Reading R) (rest more : List ℕ) (next : Kept) → CutsAll block rest line next
       → Consumes reading.bytes now.bytes more → ReadsLine bytes (coming more now) next []
   reads_block now rest more next cut read =
       let all = reads_front block [] [] next (sym (append-nil (block ++ []) ∙ append-nil block)) cut.no_feed cut.line in record {

@@ -1,5 +1,6 @@
 -- What a desk over two streams does.
 use Rattle.std.specs.Prelude.{◌≡◌, ℕ, List, Option}
+use Rattle.sources.specs.declared.input.Input as inputs
 use Rattle.std.specs.declared.io.traits.Read as reads
 use Rattle.writers.specs.Streams.{Says, Stream}
 use Rattle.desks.specs.Events.{Event, asked_in, told_in}
@@ -14,7 +15,7 @@ pub record Dealing : Type 0 where
   pub coming : Option (List ℕ)
   pub output : Stream
 
-abbrev pub dealing : {R W : Type 0} {r : reads.Ghosts R} → StreamDesk R W r → Dealing
+abbrev pub dealing : {R W : Type 0} {i : inputs.Ghosts R} {r : reads.Ghosts R} → StreamDesk R W i r → Dealing
 dealing d =
     record { reach = d.requests.reach; coming = coming d.requests.block d.requests.reader; output = d.output.now }
 
@@ -25,5 +26,6 @@ pub record Deals (old : Dealing) (events : List Event) (new : Dealing) : Type 0 
   pub says : Says old.output new.output (told_in events)
 
 -- the same of two states of one desk, which keeps its output
-abbrev pub DealsAt : {R W : Type 0} {r : reads.Ghosts R} → StreamDesk R W r → List Event → StreamDesk R W r → Type 0
+abbrev pub DealsAt : {R W : Type 0} {i : inputs.Ghosts R} {r : reads.Ghosts R}
+    → StreamDesk R W i r → List Event → StreamDesk R W i r → Type 0
 DealsAt old events new = (new.output.ghost_name ≡ old.output.ghost_name) × Deals (dealing old) events (dealing new)

@@ -7,7 +7,7 @@ use Rattle.desks.specs.declared.intake.Reach.{Reach}
 use Rattle.desks.specs.declared.intake.Reach.TheVariants as reach
 
 -- the bytes that are still to be taken, if they are known: the bytes of the block that was read last, and of the reader
-abbrev pub coming : List ℕ → Reading → Option (List ℕ)
+abbrev pub coming : {R : Type 0} → List ℕ → Reading R → Option (List ℕ)
 coming block reading = prepend_known block reading.bytes
 
 -- The requests in bytes that were taken, by how far the input was then read. While more may come, these bytes are whole

@@ -7,9 +7,9 @@ ghost use Rattle.std.specs.Prelude.{◌≡◌, ◌<◌, ◌≤◌, [], IfOk, Ok,
 use crate::desk::DeskFault;
 use crate::kept_lines::KeptLine;
 use memchr::memchr;
+use sources::input::Input;
 use sources::marked_reader::MarkedReader;
 use std::alloc::{AllocError, Global};
-use std::io::Read;
 use std::marker::Model;
 
 // The number of bytes that are read at once.
@@ -47,12 +47,15 @@ impl Block {
     }
 
     // Reads the next bytes, and returns whether there are any. There are none only at the end.
-    pub(crate) fn fill<R: Read>(&mut self, reader: &mut MarkedReader<R>) -> Result<bool, DeskFault>
+    pub(crate) fn fill<R: Input>(
+        &mut self,
+        reader: &mut MarkedReader<'_, R>,
+    ) -> Result<bool, DeskFault>
         ensures bytes { Consumes reader.old.bytes reader.new.bytes self.new }
         ensures few { length self.new ≤ BLOCK }
         ensures left { OnOk result (reader.new.left < reader.old.left) }
         ensures end { result ≡ Ok false → (self.new ≡ []) × IsAtEnd reader.new.bytes }
-        ensures failed { OnErr result ((self.new ≡ []) × HasFailed reader.new) }
+        ensures failed { OnErr result ((self.new ≡ []) × HasFailed R.reads reader.new) }
     {
         self.at = 0;
         self.end = 0;

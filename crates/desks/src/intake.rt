@@ -12,9 +12,12 @@ ghost use Rattle.std.specs.Prelude.{◌≡◌, ◌-◌, ◌<◌, ◌≤◌, ◌^
 use crate::blocks::Block;
 use crate::desk::{DeskFault, MAX_LINE, Taken};
 use crate::kept_lines::{Closed, KeptLine};
+use sources::input::Input;
 use sources::marked_reader::MarkedReader;
 use std::alloc::{AllocError, Global};
-use std::io::Read;
+
+// The number of times that the input of a session is read at most.
+const READS: u64 = u64::MAX;
 
 // How far an input was read: more may come, it ended, or a read of it failed. After the last two it is not read again.
 #[derive(Clone, Copy)]
@@ -27,24 +30,24 @@ pub(crate) enum Reach {
 /// The requests of a reader: the reader, the bytes that were read and not yet taken, the line that was taken last, and
 /// how far the input was read.
 #[derive(Drop)]
-pub struct Requests<R: Read> {
-    reader: MarkedReader<R>,
+pub struct Requests<'a, R: Input> {
+    reader: MarkedReader<'a, R>,
     block: Block,
     line: KeptLine,
     reach: Reach,
-    ghost cut_off: { reach ≡ reaches.CutOff → HasFailed reader },
+    ghost cut_off: { reach ≡ reaches.CutOff → HasFailed R.reads reader },
 }
 
 // Reads until the line is complete, and returns whether it ends in a line feed rather than at the end of the input.
-fn complete<R: Read>(
-    reader: &mut MarkedReader<R>,
+fn complete<R: Input>(
+    reader: &mut MarkedReader<'_, R>,
     block: &mut Block,
     line: &mut KeptLine,
 ) -> Result<bool, DeskFault>
     requires fresh { line.old ≡ kept_of [] }
     ensures reads { ReadsLine (coming block.old reader.old) (coming block.new reader.new) line.new (end_read result) }
     ensures end { result ≡ Ok false → IsAtEnd (coming block.new reader.new) }
-    ensures failed { OnErr result (HasFailed reader.new) }
+    ensures failed { OnErr result (HasFailed R.reads reader.new) }
     ensures measure { result ≡ Ok true → measure_of reader.new block.new < measure_of reader.old block.old }
 {
     while !block.cut(line) {
@@ -66,25 +69,24 @@ fn reached(completed: Result<bool, DeskFault>) -> Reach
     }
 }
 
-impl<R: Read + Drop> Requests<R> {
-    /// Creates the requests of a reader, before the first is taken. Allocates all memory that they need.
+impl<'a, R: Input> Requests<'a, R> {
+    /// Creates the requests of an input, before the first is taken. The input is read at most 2^64 - 1 times. Allocates all
+    /// memory that they need.
     #[tactic(auto, using(crate::proofs::TakingLemmas::all_coming))]
-    pub fn new(alloc: Global, reader: R) -> Result<Requests<R>, AllocError>
-        ensures bytes { IfOk result (λ r. coming r.block r.reader ≡ R.remaining reader) }
+    pub fn new(alloc: Global, input: &'a mut R) -> Result<Requests<'a, R>, AllocError>
+        ensures bytes { IfOk result (λ r. coming r.block r.reader ≡ R.remaining input.old) }
         ensures left { IfOk result (λ r. r.reader.left ≡ 2 ^ 64 - 1) }
         ensures failed { IfOk result (λ r. r.reader.failed ≡ false) }
         ensures reach { IfOk result (λ r. r.reach ≡ Reach.Open) }
     {
         Ok(Requests {
-            reader: MarkedReader::new(reader),
+            reader: MarkedReader::new(input, READS),
             block: Block::new(alloc)?,
             line: KeptLine::new(alloc)?,
             reach: Reach::Open,
         })
     }
-}
 
-impl<R: Read> Requests<R> {
     // Takes the next line, and returns its request if it is one, or the end of the input.
     fn take_line(&mut self) -> Result<Option<Taken>, DeskFault>
         requires { self.old.reach ≡ Reach.Open }

@@ -4,8 +4,9 @@ ghost use Rattle.writers.specs.Streams.{Says};
 
 use crate::desk::{Desk, DeskFault, MAX_LINE, Taken};
 use crate::intake::Requests;
+use sources::input::Input;
 use std::io;
-use std::io::{Read, Write};
+use std::io::Write;
 use writers::marked_writer::MarkedWriter;
 
 /// A desk over two streams: it reads requests in blocks, and it writes and flushes each answer.
@@ -13,8 +14,8 @@ use writers::marked_writer::MarkedWriter;
 /// After any calls, the output has grown by exactly the answers, unless a write failed. The requests in the log are the
 /// requests in the bytes that were taken from the input.
 #[derive(Drop)]
-pub struct StreamDesk<'a, R: Read, W: Write> {
-    requests: Requests<R>,
+pub struct StreamDesk<'a, R: Input, W: Write> {
+    requests: Requests<'a, R>,
     output: &'a mut MarkedWriter<W>,
 }
 
@@ -29,10 +30,10 @@ fn send<W: Write>(output: &mut MarkedWriter<W>, text: &[u8]) -> io::Result<()>
     output.flush()
 }
 
-impl<'a, R: Read, W: Write> StreamDesk<'a, R, W> {
+impl<'a, R: Input, W: Write> StreamDesk<'a, R, W> {
     /// Creates the desk over these requests and this output.
-    pub fn new(requests: Requests<R>, output: &'a mut MarkedWriter<W>) -> StreamDesk<'a, R, W>
-        ensures requests { result.requests ≡ requests }
+    pub fn new(requests: Requests<'a, R>, output: &'a mut MarkedWriter<W>) -> StreamDesk<'a, R, W>
+        ensures requests { result.requests ≡ requests.entry }
         ensures name { result.output.ghost_name ≡ output.entry.ghost_name }
         ensures output { result.output.now ≡ output.old }
     {
@@ -41,8 +42,6 @@ impl<'a, R: Read, W: Write> StreamDesk<'a, R, W> {
 
     /// Returns the output.
     pub fn close(self) -> &'a mut MarkedWriter<W>
-    where
-        R: Drop,
         ensures name { result.ghost_name ≡ self.entry.output.ghost_name }
         ensures output { result.now ≡ self.entry.output.now }
     {
@@ -54,7 +53,7 @@ impl<'a, R: Read, W: Write> StreamDesk<'a, R, W> {
     }
 }
 
-impl<'a, R: Read, W: Write> Desk for StreamDesk<'a, R, W> {
+impl<'a, R: Input, W: Write> Desk for StreamDesk<'a, R, W> {
     ghost use Rattle.desks.specs.Desks.{DealsAt};
     ghost use Rattle.desks.specs.Events.{Logs, asked_by, told_by};
     ghost use Rattle.desks.specs.declared.intake.Reach.TheVariants as reach;
@@ -67,7 +66,7 @@ impl<'a, R: Read, W: Write> Desk for StreamDesk<'a, R, W> {
 
     ghost at_end = { λ d. d.requests.reach ≡ reach.Ended };
 
-    ghost cut_off = { λ d. (d.requests.reach ≡ reach.CutOff) × HasFailed d.requests.reader };
+    ghost cut_off = { λ d. (d.requests.reach ≡ reach.CutOff) × HasFailed R.reads d.requests.reader };
 
     ghost unwritten = { λ d. d.output.now.failed ≡ true };
 
@@ -79,7 +78,7 @@ impl<'a, R: Read, W: Write> Desk for StreamDesk<'a, R, W> {
             → (0 < length self.new.requests.line.bytes) × (length self.new.requests.line.bytes ≤ MAX_LINE) }
         ensures end { result ≡ Ok Taken.End → self.new.requests.reach ≡ reach.Ended }
         ensures fault { IfErr result (λ e. (e ≡ DeskFault.Input)
-            × ((self.new.requests.reach ≡ reach.CutOff) × HasFailed self.new.requests.reader)) }
+            × ((self.new.requests.reach ≡ reach.CutOff) × HasFailed R.reads self.new.requests.reader)) }
     {
         match self.requests.next() {
             Ok(taken) => Ok(taken),

@@ -17,8 +17,9 @@ ghost use Rattle.statement_text.specs.Statement.{statement_text};
 ghost use Rattle.span_money.specs.LineFields.{line};
 ghost use Rattle.std.specs.Arc.{arc_value};
 ghost use Rattle.std.specs.Prelude.{◌≡◌, ◌++◌, [], ⊤, Err, IfErr, IfOk, List, MatchBool, Ok, OnErr, OnOk, Option, Some, false};
-ghost use Rattle.std.specs.Prelude.{is_err, is_some, ℕ};
+ghost use Rattle.std.specs.Prelude.{◌<◌, ◌≤◌, is_err, is_some, ℕ};
 ghost use Rattle.worker_pool.specs.Batches.{AllFit};
+ghost use Rattle.worker_pool.specs.declared.batch.TheConstants.{MAX_WORKERS};
 
 use crate::accounts::Accounts;
 use crate::answer_texts::{push_done, push_refused};
@@ -55,6 +56,7 @@ pub struct Workers<'a, R, G: Gate> {
     pub rt: &'a R,
     pub count: usize,
     pub gate: &'a G,
+    ghost in_range: { (0 < count) × (count ≤ MAX_WORKERS) },
 }
 
 /// The change that a request makes to a session.

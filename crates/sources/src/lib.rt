@@ -1,6 +1,7 @@
 //! Sources of files, which return the bytes of a file by its name, and readers that remember failures.
 #![tactic(auto)]
 
+pub mod input;
 pub mod marked_reader;
 
 ghost use Rattle.sources.specs.Files.{File, ReadGives};

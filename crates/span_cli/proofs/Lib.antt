@@ -7,4 +7,5 @@ pub mod ServingLemmas
 pub mod SessionLemmas
 pub mod StreamLemmas
 pub mod WordsLaws
+pub mod FileReadLemmas
 pub mod PieceLemmas

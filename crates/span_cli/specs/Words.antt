@@ -1,5 +1,5 @@
 -- The request of a command line.
-use Rattle.std.specs.Prelude.{ℕ, Bool, true, false, List, [], ◌∷◌, ◌++◌, ◌&&◌, Option, Some, None, codes, bytes_eq}
+use Rattle.std.specs.Prelude.{ℕ, Bool, true, false, List, [], ◌∷◌, ◌++◌, ◌&&◌, ◌||◌, ◌==◌, Option, Some, None, codes, bytes_eq, nat_lt}
 use Rattle.std.specs.Prelude.{if◌then◌else◌, is_some, map, option_map, option_and_then}
 use Rattle.std.specs.Str.Parse.{digits_value, without_leading_plus}
 use Rattle.clap.specs.Kinds.{or_else}
@@ -66,9 +66,13 @@ abbrev pub number_in : Text → Option ℕ
 number_in text =
     if is_unsigned_in 0 usize_max text then Some (digits_value 10 (without_leading_plus text)) else None
 
+-- the number, if it is a number of workers: 1 to 16
+abbrev pub in_range : ℕ → Option ℕ
+in_range n = if n == 0 || nat_lt MAX_WORKERS n then None else Some n
+
 -- the number of workers in the arguments
 abbrev pub workers_in : List Row → Option ℕ
-workers_in rows = option_and_then number_in (first_of (codes "workers") rows)
+workers_in rows = option_and_then in_range (option_and_then number_in (first_of (codes "workers") rows))
 
 -- the account that a text names, if there is a text; nothing if the text is not a valid name
 abbrev pub account_option : Option Text → Option (Option Text)

@@ -3,6 +3,5 @@ pub mod Memory
 pub mod NextWords
 pub mod OnLiterals
 pub mod Refusals
-pub mod Requests
 pub mod Rows
 pub mod Sessions

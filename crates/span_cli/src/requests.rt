@@ -1,5 +1,5 @@
 //! Requests to the program.
-ghost use Rattle.span_cli.specs.near.Requests.{HasFiles};
+ghost use Rattle.span_cli.specs.Requests.{HasFiles, HasWorkers};
 ghost use Rattle.std.specs.Prelude.{◌≡◌, length, map};
 
 use arrayvec::ArrayVec;
@@ -41,12 +41,14 @@ pub struct Request<'a> {
     pub(crate) service: Service,
     pub(crate) files: ArrayVec<&'a str, 3>,
     ghost has_files: { HasFiles service (length files.items) },
+    ghost has_workers: { HasWorkers service },
 }
 
 impl<'a> Request<'a> {
     /// Creates a request of this service for these files.
     pub fn new(service: Service, files: &[&'a str]) -> Request<'a>
-        requires { HasFiles service (length files.now) }
+        requires files { HasFiles service (length files.now) }
+        requires workers { HasWorkers service }
         ensures service { result.service ≡ service }
         ensures files { map (λ name. name.now) result.files.items ≡ map (λ name. name.now) files.now }
     {

@@ -8,14 +8,15 @@ ghost use Rattle.span_cli.specs.Sessions.{around, found_under, reads_under};
 ghost use Rattle.span_cli.specs.Telling.{Serves, TakesInput, Tells};
 ghost use Rattle.span_cli.specs.near.Refusals.{Loads, LoadsAll, MayGive, Opens, TellsSome, given_answer, refusal_line};
 ghost use Rattle.span_cli.specs.near.Refusals.{refusal_status};
-ghost use Rattle.span_cli.specs.near.Requests.{HasFiles};
+ghost use Rattle.span_cli.specs.Requests.{HasFiles};
 ghost use Rattle.span_cli.specs.declared.requests.Command.TheVariants as commands;
 ghost use Rattle.span_cli.specs.declared.serving.Refusal.TheVariants as refusal;
 ghost use Rattle.statement.specs.AllFaults.{faults_of};
 ghost use Rattle.statement.specs.Margin.{margin_of};
 ghost use Rattle.statement_text.specs.Gives.{Gives};
+ghost use Rattle.worker_pool.specs.declared.batch.TheConstants.{MAX_WORKERS};
 ghost use Rattle.writers.specs.Streams.{Says};
-ghost use Rattle.std.specs.Prelude.{◌≡◌, ◌≢◌, ◌≤◌, ◌⊎◌, ◌&&◌, IfOk, IfSome, List, Some, false, is_ok, length, map, option_map, ℕ};
+ghost use Rattle.std.specs.Prelude.{◌≡◌, ◌≢◌, ◌<◌, ◌≤◌, ◌⊎◌, ◌&&◌, IfOk, IfSome, List, Some, false, is_ok, length, map, option_map, ℕ};
 
 use crate::requests::{Command, Request, Service};
 use crate::sessions::serve_session;
@@ -24,6 +25,7 @@ use desks::intake::Requests;
 use explanation::explaining::explain;
 use result_book::books::ResultBook;
 use session::session::{Opened, Session, Workers};
+use sources::input::Input;
 use sources::{ReadFault, Sources};
 use statement::all_faults::{faults, faults_status, faults_text};
 use statement::counts::check_plain;
@@ -34,7 +36,7 @@ use statement_text::fault_lines::tell_fault;
 use statement_text::faults::{SpanFault, status};
 use statement_text::statuses::{DONE, FILE_FAILED};
 use std::alloc::{AllocError, Global};
-use std::io::{Read, Write};
+use std::io::Write;
 use std::sync::{Mutex, Wait};
 use std::thread::Threads;
 use std::time::Clock;
@@ -129,7 +131,10 @@ pub struct ServingMeans<'a, R, G: Gate> {
 
 impl<'a, R, G: Gate> ServingMeans<'a, R, G> {
     // This number of workers.
-    fn workers(&self, count: usize) -> Workers<'a, R, G> {
+    fn workers(&self, count: usize) -> Workers<'a, R, G>
+        requires { (0 < count) × (count ≤ MAX_WORKERS) }
+        ensures { result.count ≡ count }
+    {
         Workers {
             rt: self.rt,
             count,
@@ -339,7 +344,7 @@ fn serve_once<W: Write, E: Write, R: Threads + Wait + Clock + Sync, G: Gate>(
 /// rejected with status 3 or 4, `input` stays as it is. The turns in the contract are the requests, with what happened
 /// while they were answered. The bytes on `out` are the answers to them, to the end of the input. If a read of the input
 /// fails, the answers so far stay, the status is 6, and the line is `file: input`.
-pub fn serve<S: Sources, I: Read, W: Write, E: Write, R: Threads + Wait + Clock + Sync, G: Gate>(
+pub fn serve<S: Sources, I: Input, W: Write, E: Write, R: Threads + Wait + Clock + Sync, G: Gate>(
     lent: &ServingMeans<'_, R, G>,
     request: Request<'_>,
     sources: &mut S,

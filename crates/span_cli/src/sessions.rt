@@ -14,8 +14,9 @@ use desks::stream_desk::StreamDesk;
 use session::conversation::run;
 use session::session::{Opened, Workers};
 use sources::Sources;
+use sources::input::Input;
 use statement_text::statuses::{DONE, FILE_FAILED};
-use std::io::{Read, Write};
+use std::io::Write;
 use std::sync::Wait;
 use std::thread::Threads;
 use std::time::Clock;
@@ -47,7 +48,7 @@ fn tell_end<E: Write>(
 /// Answers these requests, beginning with the first, and returns the status. Each answer is written and flushed before
 /// the next request is taken.
 pub(crate) fn serve_session<
-    I: Read + Drop,
+    I: Input,
     S: Sources,
     W: Write,
     E: Write,
@@ -57,14 +58,14 @@ pub(crate) fn serve_session<
     workers: &Workers<'_, R, G>,
     mut opened: Opened,
     sources: &mut S,
-    requests: Requests<I>,
+    requests: Requests<'_, I>,
     out: &mut MarkedWriter<W>,
     err: &mut MarkedWriter<E>,
 ) -> u8
     requires text { opened.text.items ≡ opening_text opened.session }
     requires fresh { requests.reach ≡ reach.Open }
     ensures { (turns : List Turn) × AreFromSource (S.file sources.old) S.reads sources.old turns sources.new
-        × TellsSession (S.file sources.old) (coming requests.block requests.reader) opened.session turns result
+        × TellsSession (S.file sources.old) (coming requests.entry.block requests.entry.reader) opened.session turns result
         out.old out.new err.old err.new }
 {
     let mut desk = StreamDesk::new(requests, out);

@@ -8,9 +8,9 @@ ghost use Rattle.span_cli.specs.Serving.{asked_by};
 ghost use Rattle.span_cli.specs.Sessions.{around};
 ghost use Rattle.span_cli.specs.Telling.{IsMistake, IsShown, RefusesWords, TakesInputFor, no_text_line};
 ghost use Rattle.span_cli.specs.Words.{account_in, account_rule, app_without_commands, asked_among, asked_in, commands, form_kinds};
-ghost use Rattle.span_cli.specs.Words.{is_request, joined_words, kinds_of, number_in, request_in, span_app};
+ghost use Rattle.span_cli.specs.Words.{in_range, is_request, joined_words, kinds_of, number_in, request_in, span_app};
 ghost use Rattle.span_cli.specs.Words.{needed, optional, with_commands, with_rules, workers_in, workers_rule};
-ghost use Rattle.span_cli.specs.near.Requests.{HasFiles};
+ghost use Rattle.span_cli.specs.Requests.{HasFiles, HasWorkers};
 ghost use Rattle.span_cli.specs.declared.requests.Command.TheVariants as command;
 ghost use Rattle.span_cli.specs.declared.requests.Service.TheVariants as service;
 ghost use Rattle.span_cli.specs.near.Rows.{asked_for, file_rule_of, option_rule, row_app};
@@ -18,7 +18,7 @@ ghost use Rattle.writers.specs.Streams.{Says};
 ghost use Rattle.statement_text.specs.FaultLines.{memory_line};
 ghost use Rattle.std.specs.IoError.{error_kind};
 ghost use Rattle.std.specs.declared.io.ErrorKind.TheVariants as kind;
-ghost use Rattle.std.specs.Prelude.{◌≡◌, ◌≢◌, ◌⊎◌, [], ◌∷◌, ◌++◌, IfErr, IfOk, List, Some, codes, false, map};
+ghost use Rattle.std.specs.Prelude.{◌≡◌, ◌≢◌, ◌<◌, ◌≤◌, ◌⊎◌, [], ◌∷◌, ◌++◌, IfErr, IfOk, IfSome, List, Some, codes, false, map};
 ghost use Rattle.std.specs.Prelude.{option_and_then, option_map, true};
 
 use crate::joining::join_words;
@@ -30,12 +30,13 @@ use clap::builder::ValueParser;
 use clap::error::ErrorKind;
 use clap::{Arg, ArgMatches, Command, Error};
 use sources::Sources;
+use sources::input::Input;
 use span_tables::name::Name;
 use statement_text::statuses::{DONE, FILE_FAILED, OUT_OF_MEMORY, USAGE};
 use std::alloc::{AllocError, Global};
 use std::convert::AsStr;
 use std::io;
-use std::io::{Read, Write};
+use std::io::Write;
 use std::sync::Wait;
 use std::thread::Threads;
 use std::time::Clock;
@@ -44,7 +45,7 @@ use worker_pool::gates::Gate;
 use writers::marked_writer::MarkedWriter;
 
 /// The program's version, and the profiles of the method that it supports (docs/METHOD.md).
-const VERSION: &str = "1.3.0 (profile 1 and profile 2)";
+const VERSION: &str = "1.4.0 (profile 1 and profile 2)";
 
 const SPAN_MORE: &str = "\
 Common options:
@@ -500,10 +501,23 @@ fn number(text: &str) -> Option<usize>
     text.parse::<usize>().ok()
 }
 
-fn workers_asked(matches: &ArgMatches<'_>) -> Option<usize>
-    ensures { result ≡ workers_in (rows_of (found_of matches.now)) }
+// The number, if it is a number of workers.
+fn in_range(count: usize) -> Option<usize>
+    ensures same { result ≡ in_range count }
+    ensures range { IfSome result (λ n. (0 < n) × (n ≤ MAX_WORKERS)) }
 {
-    number(text(matches, "workers")?)
+    if count == 0 || count > MAX_WORKERS {
+        return None;
+    }
+    Some(count)
+}
+
+// The number of workers in the arguments, 1 to 16.
+fn workers_asked(matches: &ArgMatches<'_>) -> Option<usize>
+    ensures asked { result ≡ workers_in (rows_of (found_of matches.now)) }
+    ensures range { IfSome result (λ n. (0 < n) × (n ≤ MAX_WORKERS)) }
+{
+    in_range(number(text(matches, "workers")?)?)
 }
 
 // The account in the arguments, if there is one; `None` if it is not a valid name.
@@ -518,7 +532,8 @@ fn account_asked(matches: &ArgMatches<'_>) -> Option<Option<Name>>
 
 // The request for this service and the parameter file.
 fn on_params<'a>(service: Service, matches: &ArgMatches<'a>) -> Option<Request<'a>>
-    requires { HasFiles service 1 }
+    requires files { HasFiles service 1 }
+    requires workers { HasWorkers service }
     ensures { option_map asked_by result ≡ asked_for service (needed (codes "PARAMS" ∷ [])) (rows_of (found_of matches.now)) }
 {
     let params = text(matches, PARAMS.id)?;
@@ -527,7 +542,8 @@ fn on_params<'a>(service: Service, matches: &ArgMatches<'a>) -> Option<Request<'
 
 // The request for this service, the parameter file and the position file.
 fn on_positions<'a>(service: Service, matches: &ArgMatches<'a>) -> Option<Request<'a>>
-    requires { HasFiles service 2 }
+    requires files { HasFiles service 2 }
+    requires workers { HasWorkers service }
     ensures { option_map asked_by result
         ≡ asked_for service (needed (codes "PARAMS" ∷ codes "POSITIONS" ∷ [])) (rows_of (found_of matches.now)) }
 {
@@ -543,7 +559,8 @@ fn on_three<'a>(
     third: &str,
     matches: &ArgMatches<'a>,
 ) -> Option<Request<'a>>
-    requires { HasFiles service 3 }
+    requires files { HasFiles service 3 }
+    requires workers { HasWorkers service }
     ensures { option_map asked_by result
         ≡ asked_for service (needed (codes "PARAMS" ∷ second.now ∷ third.now ∷ [])) (rows_of (found_of matches.now)) }
 {
@@ -701,7 +718,7 @@ fn refuse<W: Write, E: Write>(
 fn answer_words<
     T: AsStr,
     S: Sources,
-    I: Read,
+    I: Input,
     W: Write,
     E: Write,
     R: Threads + Wait + Clock + Sync,
@@ -735,7 +752,7 @@ fn answer_words<
 pub fn run_words<
     T: AsStr,
     S: Sources,
-    I: Read,
+    I: Input,
     W: OutputStream,
     E: ErrorStream,
     R: Threads + Wait + Clock + Sync,

@@ -29,5 +29,5 @@ pub record ReadsLine (bytes rest : Option (List ℕ)) (line : Kept) (end : List 
   pub kept : line ≡ kept_of part
 
 -- a number that decreases as bytes are taken: a read gives no more than a block
-abbrev pub measure_of : Reading → List ℕ → ℕ
+abbrev pub measure_of : {R : Type 0} → Reading R → List ℕ → ℕ
 measure_of reading block = reading.left * (BLOCK + 1) + length block

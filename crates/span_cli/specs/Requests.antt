@@ -1,5 +1,6 @@
--- How many files a request has.
-use Rattle.std.specs.Prelude.{◌≤◌, ℕ}
+-- How many files a request has, and how many workers a session.
+use Rattle.std.specs.Prelude.{◌<◌, ◌≤◌, ℕ}
+use Rattle.worker_pool.specs.declared.batch.TheConstants.{MAX_WORKERS}
 use Rattle.span_cli.specs.declared.requests.Command.TheVariants.{Check, Plan, Margin, Explain, Roll, WhatIf, Faults}
 use Rattle.span_cli.specs.declared.requests.Service.{Service}
 use Rattle.span_cli.specs.declared.requests.Service.TheVariants.{Once, Session}
@@ -23,3 +24,12 @@ most_files service = least_files service
 -- a request for this service has this many files
 abbrev pub HasFiles : Service → ℕ → Type 0
 HasFiles service n = (least_files service ≤ n) × (n ≤ most_files service)
+
+-- the number of workers of a session; a command counts as one
+abbrev pub session_workers : Service → ℕ
+session_workers (Once command) = 1
+session_workers (Session workers) = workers
+
+-- a session has 1 to 16 workers
+abbrev pub HasWorkers : Service → Type 0
+HasWorkers service = (0 < session_workers service) × (session_workers service ≤ MAX_WORKERS)
