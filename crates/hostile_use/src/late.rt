@@ -1,60 +1,43 @@
 //! A result that arrives when its account already has its outcome, because another step of the account ran out of
 //! memory.
 use crate::memory::{TwoAccounts, words_of_two, words_or_no_batch};
+use crate::waits::{LOOKS, Waits, let_others_go_on};
 use sample_files::three_commodities::PARAMS;
 use span_tables::name::Name;
 use statement::faults::SpanFault;
 use std::alloc::Global;
 use std::process::Abort;
 use std::sync::Wait;
-use std::sync::atomic::AtomicBool;
+use std::sync::atomic::AtomicUsize;
 use std::sync::atomic::Ordering::SeqCst;
 use std::test::Fail;
-use std::thread;
 use std::thread::Threads;
 use std::time::Clock;
 use worker_pool::gates::Gate;
-
-/// The number of times that a worker checks the progress of another before it gives up.
-const LOOKS: usize = 200_000;
-
-/// The number of times that the coordinator yields, so that a helper can hand in its result.
-const TURNS: usize = 10_000;
 
 // Holds a helper with a step of X until the coordinator reaches its first step of Z. The coordinator continues with X
 // when the helper is held, and with Z when the helper has had time to hand in its result.
 #[derive(Drop)]
 struct HeldStep {
-    held: AtomicBool,
-    at_last: AtomicBool,
-    freed: AtomicBool,
-    given_up: AtomicBool,
+    waits: Waits,
+    held: AtomicUsize,
+    at_last: AtomicUsize,
+    freed: AtomicUsize,
 }
 
 impl HeldStep {
     fn new() -> HeldStep {
         HeldStep {
-            held: AtomicBool::new(false),
-            at_last: AtomicBool::new(false),
-            freed: AtomicBool::new(false),
-            given_up: AtomicBool::new(false),
+            waits: Waits::new(LOOKS),
+            held: AtomicUsize::new(0),
+            at_last: AtomicUsize::new(0),
+            freed: AtomicUsize::new(0),
         }
-    }
-
-    // Waits for a flag. The first worker that waits too long sets `given_up`, which ends all waiting.
-    fn wait_for(&self, word: &AtomicBool) {
-        for _ in 0..LOOKS {
-            if word.load(SeqCst) || self.given_up.load(SeqCst) {
-                return;
-            }
-            thread::yield_now();
-        }
-        self.given_up.store(true, SeqCst);
     }
 
     // Whether a helper was held, and released after the coordinator reached Z.
     fn was_held(&self) -> bool {
-        self.freed.load(SeqCst) && !self.given_up.load(SeqCst)
+        self.freed.load(SeqCst) > 0 && self.waits.all_ended()
     }
 }
 
@@ -62,19 +45,17 @@ impl Gate for HeldStep {
     fn pass(&self, worker: usize, account: &Name, _step: usize) {
         let is_first = account.as_bytes() == b"X".as_slice();
         match (worker, is_first) {
-            (0, true) => self.wait_for(&self.held),
+            (0, true) => self.waits.until(&self.held, 1),
             (0, false) => {
-                if !self.at_last.swap(true, SeqCst) {
-                    self.wait_for(&self.freed);
-                    for _ in 0..TURNS {
-                        thread::yield_now();
-                    }
+                if self.at_last.swap(1, SeqCst) == 0 {
+                    self.waits.until(&self.freed, 1);
+                    let_others_go_on();
                 }
             }
             (_, true) => {
-                self.held.store(true, SeqCst);
-                self.wait_for(&self.at_last);
-                self.freed.store(true, SeqCst);
+                self.held.store(1, SeqCst);
+                self.waits.until(&self.at_last, 1);
+                self.freed.store(1, SeqCst);
             }
             (_, false) => {}
         }
@@ -82,7 +63,7 @@ impl Gate for HeldStep {
 }
 
 // X holds the futures of all three commodities, and Z is long two of the second.
-const HELD_AND_LAST: TwoAccounts = TwoAccounts {
+const HELD_AND_LAST: TwoAccounts<'static> = TwoAccounts {
     params: PARAMS,
     positions: b"X,FA,3\nX,FB,-1\nX,FC,-1\nZ,FB,2\n",
     first: b"X",

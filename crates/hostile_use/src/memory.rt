@@ -240,8 +240,9 @@ fn word_of(outcome: &Outcome, account: &[u8], total: i128) -> Option<&'static st
 }
 
 /// Two accounts under a parameter file, with the totals that they have if there is enough memory.
-pub(crate) struct TwoAccounts {
-    pub(crate) params: &'static [u8],
+#[derive(Drop)]
+pub(crate) struct TwoAccounts<'a> {
+    pub(crate) params: &'a [u8],
     pub(crate) positions: &'static [u8],
     pub(crate) first: &'static [u8],
     pub(crate) first_total: i128,
@@ -249,8 +250,8 @@ pub(crate) struct TwoAccounts {
     pub(crate) second_total: i128,
 }
 
-// The outcomes of a batch, or out of memory.
-fn outcomes_of<R: Threads + Wait + Clock + Sync + Abort, G: Gate>(
+/// Returns the outcomes of a batch, or out of memory.
+pub(crate) fn outcomes_of<R: Threads + Wait + Clock + Sync + Abort, G: Gate>(
     rt: &R,
     alloc: Global,
     set: &Arc<CompiledSet>,
@@ -272,7 +273,7 @@ fn outcomes_of<R: Threads + Wait + Clock + Sync + Abort, G: Gate>(
 // The words for the outcomes of two accounts.
 fn words_of(
     rt: &impl Abort,
-    accounts: &TwoAccounts,
+    accounts: &TwoAccounts<'_>,
     outcomes: &[Outcome],
 ) -> (&'static str, &'static str) {
     match outcomes {
@@ -303,7 +304,7 @@ pub(crate) fn words_or_no_batch(
 pub(crate) fn words_of_two<R: Threads + Wait + Clock + Sync + Abort, G: Gate>(
     rt: &R,
     alloc: Global,
-    accounts: &TwoAccounts,
+    accounts: &TwoAccounts<'_>,
     workers: usize,
     gate: &G,
 ) -> Result<(&'static str, &'static str), SpanFault> {
@@ -314,7 +315,7 @@ pub(crate) fn words_of_two<R: Threads + Wait + Clock + Sync + Abort, G: Gate>(
 }
 
 // Y is long two futures and X short one.
-const LONG_AND_SHORT: TwoAccounts = TwoAccounts {
+const LONG_AND_SHORT: TwoAccounts<'static> = TwoAccounts {
     params: one_future::PARAMS,
     positions: b"Y,FA,1\nX,FA,-1\nY,FA,1\n",
     first: b"Y",
