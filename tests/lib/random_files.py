@@ -37,6 +37,7 @@ FIELDS = {
 POSITION, ORDERED = [ACCOUNT, CONTRACT, QUANTITY], [ORDER, ACCOUNT, CONTRACT, QUANTITY]
 MOST = {"COMMODITY": 128, "INTER": 256, "TIER": 32, "INTRA": 64, "SPOT": 16}  # the limits of records that random files reach
 HELD, ACCOUNTS = 1024, 4096  # the contracts that an account may hold, and the accounts of a file
+SLOTS = 64  # numbers of commodities, spreads and months that are equal modulo 64 share a slot of the program's indexes
 # Forms that records share, and another value of each.
 FRESH = {"cc": "NONE", "account": "NONE", "contract": "NONE", "order": "NONE", "tier": "7", "priority": "9", "month": "202602", "side": "B"}
 # Texts that some reader takes for a number or a name, texts at the limits of length, and right ones.
@@ -79,16 +80,18 @@ def joined(records: list[Record]) -> bytes:
 
 class Files:
     """Accepted parameters, positions and orders. With `like`, names and months are taken from other files. With `large`, there are more
-    records. With `held`, account 1 holds about as many contracts as it may, perhaps more, and then the files are rejected."""
+    records. With `held`, account 1 holds about as many contracts as it may, perhaps more, and then the files are rejected. With `wide`,
+    there are so many commodities, spreads and months that some share a slot."""
 
-    def __init__(self, numbers: random.Random, like: Optional[Files] = None, large: bool = False, held: bool = False) -> None:
-        self.numbers, self.large, self.held = numbers, large, held
+    def __init__(self, numbers: random.Random, like: Optional[Files] = None, large: bool = False, held: bool = False,
+                 wide: bool = False) -> None:
+        self.numbers, self.large, self.held, self.wide = numbers, large, held, wide
         self.version = self.one(1, 2)
         self.style: str = like.style if like else self.one("%s%d", "%s%d", "%s-%d", "%s%012d", "-_%s%d", "%.0s%d")
         self.size = self.one(1, 2, 9, 100, 1000, 450000, 10**8)  # of array values
-        self.commodities = self.names("C", self.pick(1, 8) if large else self.one(1, 2, 3, 3, 4))
+        self.commodities = self.names("C", self.pick(1, 8) if large else self.one(66, 72, 128) if wide else self.one(1, 2, 3, 3, 4))
         self.months: list[str] = like.months if like else self.some_months()
-        count = self.pick(1, 60) if large else len(self.commodities) * self.one(1, 3, 5, 6, 8)
+        count = self.pick(1, 60) if large else len(self.commodities) * (self.one(2, 4) if wide else self.one(1, 3, 5, 6, 8))
         count = max(count, len(like.contracts)) if like and self.often(0.6) else count
         self.contracts: list[str] = self.names("K", HELD + 6 if held else count)
         self.accounts = self.names("A", self.pick(0, 40) if large else 2 if held else self.one(0 if self.often(0.3) else 1, 1, 2, 3, 4))
@@ -111,6 +114,9 @@ class Files:
     def some_months(self) -> list[str]:
         """Months in ascending order, usually with gaps, often over the end of a year, rarely at the limits."""
         at, months = self.one(24310, 24310, 24311, 24300, 22800), []
+        if self.wide:
+            numbers = self.numbers.sample((0, 1, 2, 63, 64, 65, 66, 128, 129), self.pick(3, 9))
+            return [f"{number // 12}{number % 12 + 1:02d}" for number in sorted(at + it for it in [*numbers, 3, 67])]
         if self.often(0.02):
             return ["190001", "190012", "290001", "299912"]
         for _ in range(self.pick(1, 14) if self.large else self.one(1, 2, 2, 3, 3, 4, 5)):
@@ -173,9 +179,11 @@ class Files:
         """The records of one commodity, without its contracts."""
         records, tiers = [["COMMODITY", name, self.rate(), self.one("SUM", "MAX")]], self.tiers(name)
         places = [(tier[2], side) for tier in tiers for side in "AB"]
-        for priority in self.priorities(self.one(0 if self.often(0.3) else 1, 2, 3, 5)) if places else []:
+        most = MOST["INTRA"] if self.wide and self.often(0.05) else 5
+        for priority in self.priorities(self.one(0 if self.often(0.3) else 1, 2, 3, most)) if places else []:
             records.append(["INTRA", name, priority, self.rate(), *self.legs(places)])
-        for month in self.numbers.sample(self.months[:3], min(len(self.months[:3]), self.one(0, 1, 1, 2, 3))):
+        months = self.months if self.wide else self.months[:3]
+        for month in self.numbers.sample(months, min(len(months), self.one(0, 1, 1, 2, 3))):
             records.append(["SPOT", name, month, self.rate(), self.rate()])
         return records + tiers
 
@@ -184,8 +192,9 @@ class Files:
         for name in self.commodities:
             records += self.of_commodity(name)
         if len(self.commodities) > 1:
-            for priority in self.priorities(self.one(0 if self.often(0.3) else 1, 2, 3, 5, 8)):
-                cc = self.numbers.sample(self.commodities, len(self.commodities))
+            for priority in self.priorities(self.one(66, 80, 130) if self.wide else self.one(0 if self.often(0.3) else 1, 2, 3, 5, 8)):
+                among = self.commodities[:4] + self.commodities[SLOTS:SLOTS + 4] if self.wide and self.often(0.5) else self.commodities
+                cc = self.numbers.sample(among, len(among))
                 sides = ["A", "B", *(self.one("A", "B") for _ in cc[2:])]
                 basis_points = self.one(0 if self.often(0.3) else 1, 3333, 7400, 10000, self.pick(0, 10000))
                 records.append(["INTER", priority, str(basis_points), *self.legs(list(zip(cc, sides)))])
@@ -200,7 +209,8 @@ class Files:
         """Positions. An account often has opposite signs in neighbouring months or commodities, and records that add up to 0."""
         records, listed = [], {record[1]: record for record in self.params if record[0] == "CONTRACT"}
         for account in self.accounts:
-            part, opposite = self.one(0.3, 0.7, 1, 1) * min(1, 30 / len(self.contracts)), self.one("months", "commodities", "none")
+            part = self.one(0.3, 0.7, 1, 1) * min(1, (150 if self.wide else 30) / len(self.contracts))
+            opposite = self.one("months", "commodities", "none")
             for contract in [it for it in self.contracts if self.often(part)] or [self.one(*self.contracts)]:
                 at = self.months.index(listed[contract][4]) if opposite == "months" else self.commodities.index(listed[contract][2])
                 first = self.quantity() * (self.one(1, -1) if opposite == "none" or self.often(0.1) else (-1) ** at)
@@ -212,6 +222,18 @@ class Files:
         if self.often(0.7):
             self.numbers.shuffle(records)
         return records
+
+    def sharing(self) -> set[str]:
+        """What shares a slot: held commodities, held months of one commodity, or spreads between commodities."""
+        names = [record[1] for record in self.params if record[0] == "COMMODITY"]
+        contracts = {record[1]: record for record in self.params if record[0] == "CONTRACT"}
+        found = {"spreads"} if sum(record[0] == "INTER" for record in self.params) > SLOTS else set()
+        for account in self.accounts:
+            held = [contracts[name] for name, net in self.nets(account).items() if net]
+            places = {(names.index(record[2]), int(record[4][:4]) * 12 + int(record[4][4:])) for record in held}
+            found |= {"commodities"} if any(number + SLOTS in dict(places) for number, _ in places) else set()
+            found |= {"months"} if any((number, month + SLOTS) in places for number, month in places) else set()
+        return found
 
     def traded(self) -> str:
         """A contract of an order. If account 1 holds about as many as it may, this is usually one that it does not hold."""
