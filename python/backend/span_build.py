@@ -1,7 +1,8 @@
 """The build backend of the package: the hooks of PEP 517 and PEP 660 that make a wheel and an sdist. It needs only the standard library.
 
-A wheel contains the program if the setting `program` names it. The setting `platform` is then the platform of the wheel, such as
-manylinux_2_34_x86_64 (by default linux_x86_64), and the setting `record`, if there is one, names the record of the proof.
+A wheel contains the program, and has a command `span`, if the setting `program` names it. The setting `platform` is then the platform
+of the wheel, such as manylinux_2_34_x86_64 (by default linux_x86_64), and the setting `record`, if there is one, names the record of the
+proof.
 
 The same files always give the same bytes: names are sorted, a wheel is not compressed, and every file has the time of
 SOURCE_DATE_EPOCH, or by default one fixed time.
@@ -54,14 +55,16 @@ def stem() -> str:
 
 
 def metadata() -> bytes:
-    fields = project()
+    fields, text = project(), section("project")
     lines = [
         "Metadata-Version: 2.1",
         f"Name: {fields['name']}",
         f"Version: {fields['version']}",
         f"Summary: {fields['description']}",
+        *(f"Author: {it}" for it in re.findall(r'^authors = .*name = "(.*?)"', text, re.MULTILINE)),
+        *(f"License: {it}" for it in re.findall(r'^license = .*text = "(.*?)"', text, re.MULTILINE)),
         f"Requires-Python: {fields['requires-python']}",
-        *(f"Classifier: {it}" for it in re.findall(r'^ +"(.*)",$', section("project"), re.MULTILINE)),
+        *(f"Classifier: {it}" for it in re.findall(r'^ +"(.*)",$', text, re.MULTILINE)),
         "Description-Content-Type: text/markdown",
         "",
         (ROOT / fields["readme"]).read_text(encoding="utf-8"),
@@ -74,9 +77,10 @@ def wheel_fields(tag: str) -> bytes:
     return f"Wheel-Version: 1.0\nGenerator: span_build\nRoot-Is-Purelib: {is_pure}\nTag: {tag}\n".encode()
 
 
-def entry_points() -> bytes:
+def entry_points(has_program: bool) -> bytes:
     """The commands that an installer makes."""
-    return ("[console_scripts]\n" + section("project.scripts").replace('"', "").strip() + "\n").encode()
+    own = "span = span_margin._own:main\n" if has_program else ""
+    return ("[console_scripts]\n" + section("project.scripts").replace('"', "").strip() + "\n" + own).encode()
 
 
 def moment() -> int:
@@ -97,7 +101,7 @@ def digest(content: bytes) -> str:
 def write_wheel(directory: str, content: List[Packed], platform: str = "any") -> str:
     """Writes a wheel of these files and returns its name."""
     info, tag = f"{stem()}.dist-info", f"py3-none-{platform}"
-    about = {"METADATA": metadata(), "WHEEL": wheel_fields(tag), "entry_points.txt": entry_points()}
+    about = {"METADATA": metadata(), "WHEEL": wheel_fields(tag), "entry_points.txt": entry_points(platform != "any")}
     entries = [*content, *(Packed(f"{info}/{name}", data) for name, data in about.items())]
     rows = [f"{it.name},sha256={digest(it.data)},{len(it.data)}\n" for it in entries]
     entries.append(Packed(f"{info}/RECORD", ("".join(rows) + f"{info}/RECORD,,\n").encode()))

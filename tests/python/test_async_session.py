@@ -1,8 +1,10 @@
 """Sessions in asyncio: each method against `Session`, coroutines that are cancelled, loops that are closed, and timeouts."""
 import asyncio
 import gc
+import os
 import random
 import time
+from pathlib import Path
 from typing import Any, Awaitable, Callable, List
 
 import span_margin as span
@@ -60,6 +62,30 @@ class Answers(AsyncCase):
                 await desk.attribution("RIVER-01", timeout=0)
             with self.assertRaises(ValueError):
                 await desk.cheapest_close("RIVER-01", 1, "due")
+
+        self.run_in(work)
+
+    def test_pipe(self) -> None:
+        """A new set that waits for the writer of a pipe does not stop the loop, and can be cancelled. A later call gets all of the file."""
+        os.mkfifo("pipe")
+
+        async def work(desk: span.AsyncSession) -> None:
+            for ends in (lambda task: task.cancel(), lambda task: None):
+                task = asyncio.ensure_future(desk.use_set("pipe", timeout=0.5))
+                await asyncio.sleep(0.1)
+                self.assertEqual((await desk.margin("RIVER-01")).total, 1331287)
+                ends(task)
+                with self.assertRaises((asyncio.CancelledError, span.TimedOut)):
+                    await task
+                task = asyncio.ensure_future(desk.use_set("pipe"))
+                writing = asyncio.get_running_loop().run_in_executor(None, Path("pipe").write_bytes, PARAMS.read_bytes())
+                self.assertEqual((await task).set, "D20251114")
+                await writing
+            task = asyncio.ensure_future(desk.use_set("pipe"))
+            await asyncio.sleep(0.1)
+            await desk.close()
+            with self.assertRaises(span.SessionEnded):
+                await task
 
         self.run_in(work)
 

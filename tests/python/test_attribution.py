@@ -11,12 +11,13 @@ import unittest
 from fractions import Fraction
 from importlib.util import find_spec
 from pathlib import Path
-from typing import Any, Dict, Iterator, List, Tuple
+from typing import Dict, Iterator, List, Tuple
 from unittest import mock
 
 import span_margin as span
 from shared import PARAMS, POSITIONS, VALUE, SessionCase, fill_random, lines_of, random_sessions
 from span_margin import _attribution
+from span_margin.report._shares import attribution_of
 
 
 def amount_of(margin: span.AccountMargin, of: str) -> int:
@@ -212,7 +213,7 @@ class ManyContracts(Case):
         writer.start()
         self.addCleanup(writer.join)
         desk = self.session("pipe", self.positions, timeout=60)
-        self.assertIn("pipe", str(self.error(ValueError, desk.attribution, "A")))
+        self.check_sums(desk, desk.attribution("A"))
 
 
 class Answers(Case):
@@ -251,6 +252,12 @@ class Answers(Case):
     def test_currency(self) -> None:
         found = self.session().attribution("RIVER-01")
         self.assertEqual((found.amount.currency, found.shares[0].share.currency, found.by_commodity["CL"].currency), ("USD",) * 3)
+        self.assertEqual((found.currency, list(found.to_dict().items())[-1]), ("USD", ("currency", "USD")))
+        for kind in ("shares", "commodities"):
+            rows = list(csv.DictReader(io.StringIO(found.to_csv(kind))))
+            self.assertEqual((list(rows[0])[-1], {row["currency"] for row in rows}), ("currency", {"USD"}))
+        (line,) = found.to_json().encode().splitlines()
+        self.assertEqual((attribution_of(line), attribution_of(line).currency), (found, "USD"))
 
     def test_errors(self) -> None:
         desk = self.session()
@@ -261,16 +268,7 @@ class Answers(Case):
         desk.close()
         self.error(span.SessionEnded, desk.attribution, "RIVER-01")
 
-    def test_changes_meanwhile(self) -> None:
-        desk, answered = self.session(), _attribution.answered
-
-        def interrupted(*arguments: Any) -> Any:
-            found = answered(*arguments)
-            desk.fill("RIVER-01", {"CLZ5": 1})
-            return found
-
-        with mock.patch.object(_attribution, "answered", interrupted):
-            self.assertEqual(self.error(span.PositionsChangedError, desk.attribution, "RIVER-01").account, "RIVER-01")
-        exact = _attribution.exact
-        with mock.patch.object(_attribution, "exact", lambda *it: (desk.fill("RIVER-01", {"CLZ5": 3}), exact(*it))[1]):
-            self.error(span.PositionsChangedError, desk.attribution, "RIVER-01")
+    def test_positions(self) -> None:
+        desk = self.session()
+        held = {it.contract: it.quantity for it in desk.positions() if it.account == "RIVER-01"}
+        self.assertEqual((desk.attribution("RIVER-01").positions, desk.cheapest_close("RIVER-01", 0).positions), (held, held))

@@ -208,6 +208,31 @@ class Sources(Case):
         self.same(frame)
         self.same(frame.assign(quantity=frame.quantity.astype(int), trader=None)[["trader", "quantity", "contract", "account"]])
 
+    def test_floats(self) -> None:
+        """A float is an error that names its row and column, even if it is whole. A parameter record may have one, such as a delta."""
+        nan = float("nan")
+        for rows_of, where in (
+            ([("A", "CLZ5", 1), ("B", "CLZ5", 1.0)], "row 2: quantity is a float, 1.0"),
+            ([{"account": 7.0, "contract": "CLZ5", "quantity": 1}], "row 1: account is a float, 7.0"),
+            ([("A", nan, 1)], "row 1: contract is a float, nan"),
+        ):
+            self.assertIn(where, str(self.error(TypeError, span.margin, PARAMS, rows_of)))
+        orders = [("HEDGE", "RIVER-01", "CLZ5", 1), ("HEDGE", "RIVER-01", "CLF6", -1.5)]
+        self.assertIn("row 2: quantity is a float, -1.5", str(self.error(TypeError, span.whatif, PARAMS, POSITIONS, orders)))
+        self.same((account, contract, Decimal(quantity)) for account, contract, quantity in rows(POSITIONS))
+        deltas = [[*row[:5], float(row[5]), *row[6:]] if row[0] == "CONTRACT" else row for row in rows(PARAMS)]
+        self.assertEqual(span.check(deltas), span.check(PARAMS))
+
+    @unittest.skipUnless(pandas, "there is no pandas")
+    def test_floats_of_a_data_frame(self) -> None:
+        """A missing value makes a column of floats."""
+        frame = pandas.DataFrame([("A", "CLZ5", 1), ("B", "CLZ5", None)], columns=["account", "contract", "quantity"])
+        for kind in ("float64", "float32"):
+            error = self.error(TypeError, span.margin, PARAMS, frame.astype({"quantity": kind}))
+            self.assertIn("row 1: quantity is a float, 1.0", str(error))
+        missing = span.margin(PARAMS, frame.fillna(0).astype({"quantity": "Int64"}))
+        self.assertEqual([it.account for it in missing], ["A", "B"])
+
     def test_wrong_rows(self) -> None:
         for positions, error in (
             ([{"account": "A", "contract": "CLZ5"}], ValueError),
@@ -223,7 +248,6 @@ class Sources(Case):
 
     def test_program_judges_rows(self) -> None:
         for row, code in (
-            (("A", "CLZ5", 1.0), "Q3"),
             (("A", "CLZ5", True), "Q3"),
             (("A", "CLZ5", None), "Q3"),
             (("A", "CLZ5"), "Q1"),

@@ -206,17 +206,6 @@ class Limits(Case):
         self.error(TypeError, desk.cheapest_close, "RIVER-01", 1.5)
         self.error(span.TimedOut, desk.cheapest_close, "RIVER-01", 1, timeout=0)
 
-    def test_changes_meanwhile(self) -> None:
-        desk, decided = self.session(), _closing.Search.decided
-
-        def interrupted(search: Any) -> Any:
-            found = decided(search)
-            desk.fill("RIVER-01", {"CLZ5": 1})
-            return found
-
-        with mock.patch.object(_closing.Search, "decided", interrupted):
-            self.error(span.PositionsChangedError, desk.cheapest_close, "RIVER-01", 600000)
-
 
 class Texts(Case):
     def test_texts(self) -> None:
@@ -229,3 +218,5 @@ class Texts(Case):
         self.assertEqual((data["target"], len(data["legs"]), data["order"]["after"]), (600000, len(found.legs), found.after))
         self.assertEqual(pickle.loads(pickle.dumps(found)), found)
         self.assertEqual((found.before.currency, found.target.currency), ("USD", "USD"))
+        self.assertEqual((row["currency"], data["currency"], data["order"]["currency"]), ("USD", "USD", "USD"))
+        self.assertNotIn("currency", rows[0])

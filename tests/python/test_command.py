@@ -9,6 +9,7 @@ import re
 import subprocess
 import sys
 from decimal import Decimal
+from pathlib import Path
 from typing import Any, Tuple
 
 import span_margin as span
@@ -44,11 +45,12 @@ class Command(Case):
     def test_table(self) -> None:
         given = b"T,RIVER-01,D1,1331287\nR,A,D1,CL,1,14,2,3,4,5,600\nT,A,D1V,5,-600,7,8\n"
         self.assertEqual(self.printed("table", "--major", "2", given=given), "\n".join((
-            "account   set     total  value   due  excess",
+            "account   set     total  value   due  excess  currency",
             "RIVER-01  D1   13312.87",
             "A         D1V      0.05  -6.00  0.07    0.08",
             "",
-            "account  set  commodity  scan_risk  active_scenario  intracommodity_charge  delivery_charge  credit  minimum  requirement",
+            "account  set  commodity  scan_risk  active_scenario  intracommodity_charge  delivery_charge  credit  minimum  requirement"
+            "  currency",
             "A        D1   CL              0.01               14                   0.02             0.03    0.04     0.05         6.00",
             "")))
         self.assertEqual(self.printed("table", given=b""), "")
@@ -72,6 +74,41 @@ class Command(Case):
         self.assertEqual((sums["sum_1"], sums["sum_14"]), (-57430, 971600))
         (row,) = [json.loads(self.printed("json", "--major", "2", given=b"CREDIT,A,D1,CL,916325.5,2.2828,16892.72\n"))]
         self.assertEqual((row["price_risk"], row["net_delta"]), ("9163.255", "2.2828"))
+
+    def test_currency(self) -> None:
+        """Lines have the currency of the parameter file with the id of their set. Others have an empty one, and so have all without it."""
+        roll, dollars, euros = (EXAMPLES / "statement-roll.csv").read_bytes(), str(PARAMS), str(self.room / "euros")
+        Path(euros).write_bytes(NEXT.read_bytes().replace(b",USD", b",EUR"))
+        for words, currencies in (
+            ((), {("D20251114", ""), ("D20251117", "")}), (("--params", dollars), {("D20251114", "USD"), ("D20251117", "")}),
+            (("--params", euros, "--params", dollars), {("D20251114", "USD"), ("D20251117", "EUR")}),
+        ):
+            rows = list(csv.DictReader(io.StringIO(self.printed("csv", *words, given=roll))))
+            self.assertEqual(({(row["set"], row["currency"]) for row in rows}, list(rows[0])[-1]), (currencies, "currency"))
+            objects = [json.loads(line) for line in self.printed("json", *words, given=roll).split("\n")[:-1]]
+            self.assertEqual([it["currency"] or "" for it in objects], [row["currency"] for row in rows])
+        table = self.printed("table", "--params", dollars, given=b"T,A,D20251114,5\nT,B,D2,6\nMONTH,A,D20251114,CL,202512,1,2\n")
+        heads = "account  set        total  currency", "account  set        commodity  month   delta  left"
+        first = f"{heads[0]}\nA        D20251114      5  USD\nB        D2             6\n"
+        self.assertEqual(table, f"{first}\n{heads[1]}\nA        D20251114  CL         202512      1     2\n")
+
+    def test_wrong_parameter_sets(self) -> None:
+        """A file without a SET record, none, and two that say different currencies of one set."""
+        Path("euros").write_bytes(PARAMS.read_bytes().replace(b",USD", b",EUR"))
+        for status, *words in ((2, "--params", str(POSITIONS)), (2, "--params", str(PARAMS), "--params", "euros"), (6, "--params", "none")):
+            for word in (("csv",), ("compare", str(EXPLANATION), str(EXPLANATION))):
+                done = command(*word, *words, given=b"T,A,D1,5\n")
+                self.assertEqual(done[:2], (status, ""))
+                self.assertRegex(done[2], r"\Apython -m span_margin: .*\n\Z")
+
+    def test_compare_of_two_currencies(self) -> None:
+        Path("euros").write_bytes(NEXT.read_bytes().replace(b",USD", b",EUR"))
+        span.explain(NEXT, POSITIONS).write("after")
+        words = ("compare", str(EXPLANATION), "after", "--params", str(PARAMS))
+        done = command(*words, "--params", "euros")
+        self.assertEqual(done, (2, "", "python -m span_margin: an explanation in USD and one in EUR cannot be compared\n"))
+        for more, currency in (((), None), (("--params", str(NEXT)), "USD")):
+            self.assertEqual(json.loads(self.printed(*words, *more, "--json", given=b""))["currency"], currency)
 
     def test_orders(self) -> None:
         changes = (EXAMPLES / "changes-broker.csv").read_bytes()
@@ -151,7 +188,7 @@ class Command(Case):
         before, after = (span.explain(params, POSITIONS) for params in (PARAMS, NEXT))
         path = self.use_temporary_directory() / "after"
         after.write(path)
-        words, found = ("compare", str(EXPLANATION), str(path)), span.compare(before, after)
+        words, found = ("compare", str(EXPLANATION), str(path), f"--params={PARAMS}", f"--params={NEXT}"), span.compare(before, after)
         for table in ("accounts", "commodities", "positions", "rates", "figures", "sums"):
             self.assertEqual(self.printed(*words, "--table", table, given=b""), found.to_csv(table))
         self.assertEqual(self.printed(*words, given=b""), found.to_csv())

@@ -118,8 +118,22 @@ class Changes(Case):
 
     def test_currencies(self) -> None:
         euros = span.explain(PARAMS.read_bytes().replace(b",USD", b",EUR"), POSITIONS)
-        found = span.compare(span.explain(PARAMS, POSITIONS), euros)
-        self.error(span.CurrencyError, found.to_csv)
+        dollars = span.explain(PARAMS, POSITIONS)
+        error = self.error(span.CurrencyError, span.compare, dollars, euros)
+        self.assertEqual(str(error), "an explanation in USD and one in EUR cannot be compared")
+        self.error(span.CurrencyError, span.compare, dollars["RIVER-01"], euros["RIVER-01"])
+        following = span.explain(NEXT, POSITIONS)
+        for before, after, currency in (
+            (dollars, following, "USD"), (dollars, span.Explanation(bytes(following)), None),
+            (span.Explanation(bytes(dollars)), span.Explanation(bytes(following)), None),
+        ):
+            found = span.compare(before, after)
+            self.assertEqual((found.currency, found.to_dict()["currency"], json.loads(found.to_json())["currency"]), (currency,) * 3)
+            for kind in ("accounts", "commodities", "positions", "sums"):
+                rows = list(csv.DictReader(io.StringIO(found.to_csv(kind))))
+                self.assertEqual({row["currency"] for row in rows}, {currency or ""} if rows else set())
+            of_figures = {row["name"]: row["currency"] for row in csv.DictReader(io.StringIO(found.to_csv("figures")))}
+            self.assertEqual((of_figures["price risk"], of_figures["weight of credits"]), (currency or "", ""))
 
 
 class Texts(Case):

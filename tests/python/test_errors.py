@@ -8,7 +8,7 @@ from pathlib import Path
 from unittest import mock
 
 import span_margin as span
-from shared import FAULTY_PARAMS, FAULTY_POSITIONS, NEXT, PARAMS, POSITIONS, Case, lines_of
+from shared import FAULTY_PARAMS, FAULTY_POSITIONS, NEXT, PARAMS, POSITIONS, Case, SessionCase, lines_of
 from span_margin import _program
 
 
@@ -134,6 +134,56 @@ class Files(Case):
         self.use(SPAN_EXAMPLE=str(PARAMS))
         error = self.error(span.FileError, span.margin, "pipe", "pipe")
         self.assertEqual((error.filename, error.reason, str(error)), ("pipe", None, "file: pipe"))
+
+
+class Texts(SessionCase):
+    """No text of an error has characters that control a terminal, or that begin a new line of a log."""
+
+    def shown(self, error: BaseException, *escapes: str) -> None:
+        self.assertTrue(str(error).isprintable(), ascii(str(error)))
+        for escape in escapes:
+            self.assertIn(escape, str(error))
+
+    def test_requests(self) -> None:
+        desk = self.session()
+        escapes = {"A\x1b[31m": r"A\x1b[31m", "A\0": r"\x00", "A\x85B": r"\x85", "A\u202eB": r"\u202e", "\x7f": r"\x7f"}
+        for name, escape in escapes.items():
+            error = self.error(span.RequestError, desk.margin, name)
+            self.shown(error, escape)
+            self.assertEqual((error.request, error.account), (f"MARGIN,{name}", name))
+            self.shown(pickle.loads(pickle.dumps(error)), escape)
+            self.shown(self.error(span.RequestError, desk.try_order, "RIVER-01", {name: 1}), escape)
+        self.assertTrue(str(self.error(span.RequestError, desk.margin, "Z\u00fcrich")).endswith(": Z\u00fcrich"))
+        self.shown(self.error(ValueError, desk.cheapest_close, "RIVER-01", 0, only=["A\x1b"]), r"A\x1b")
+
+    def test_files(self) -> None:
+        self.shown(self.error(span.FileError, span.margin, PARAMS, Path("a\x1b\nb")), r"a\x1b\nb")
+        self.shown(self.error(span.FileError, span.margin, PARAMS, os.fsdecode(b"\xff")), r"\udcff")
+        self.shown(self.error(ValueError, span.margin(PARAMS, POSITIONS).write, "/dev/../dev"), "'/dev/../dev'")
+
+    def test_rows(self) -> None:
+        parameters = span.ParameterSet("D1", "USD")
+        self.shown(self.error(ValueError, parameters.add_tiers, [("CL",)], source="a\x1b\nb"), r"a\x1b\nb row 1")
+        parameters.add_commodities([("CL", 1, "SUM"), ("CL", 1, "\x1b")], source="a\x1b\nb")
+        error = self.error(span.ParameterSetError, parameters.check)
+        self.assertEqual(str(error).split("\n"), [r"a\x1b\nb row 2: P5 BadName in method: '\x1b'"])
+
+    def test_programs(self) -> None:
+        self.use_program(r"printf 'T,A\033[2J,D20251114,x\n'")
+        statement = span.margin(PARAMS, POSITIONS)
+        self.assertTrue(repr(statement).isprintable())
+        self.shown(self.error(span.ProgramError, lambda: statement[0].total), r"\x1b")
+        for status, kind in ((2, span.UsageError), (4, span.PositionsError), (9, span.ProgramError)):
+            self.use_program(rf"printf 'no\033[2J\nsecond\n' >&2; exit {status}")
+            error = self.error(kind, span.margin, PARAMS, POSITIONS)
+            self.shown(error, r"no\x1b[2J")
+            self.assertEqual(error.line, "no\x1b[2J\nsecond")
+            self.use(SPAN=os.environ["SPAN_REAL"])
+
+    def test_of_the_command(self) -> None:
+        words = [sys.executable, "-m", "span_margin", "cheapest-close", PARAMS, POSITIONS, "RIVER-01", "1", "--only", "A\x1b[2J"]
+        done = subprocess.run(words, check=False, stderr=subprocess.PIPE, text=True)
+        self.assertEqual((done.returncode, done.stderr), (2, "python -m span_margin: RIVER-01 does not hold 'A\\x1b[2J'\n"))
 
 
 class Program(Case):

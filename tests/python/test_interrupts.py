@@ -91,6 +91,17 @@ class Deadlines(SessionCase):
         self.assertEqual({it.request for it in desk.left}, {"FILL,NEW,CLZ5,1"})
         self.assertGreater(len(desk.left), 30)
 
+    def test_fills_with_keys(self) -> None:
+        """An interrupted fill that is asked for again is carried out once, also if the interrupt came as the call returned."""
+        desk, chance, interrupted = self.session(timeout=LONGEST), random.Random(6), 0
+        usual = self.usual(lambda: desk.fill("NEW", {"CLZ5": 0}))
+        for number in range(1000):
+            got = self.within(chance.uniform(1e-6, 2 * usual), lambda: desk.fill("NEW", {"CLZ5": 1}, key=f"K{number}"))
+            interrupted += got is None
+            self.assertIn(got, (None, desk.fill("NEW", {"CLZ5": 1}, key=f"K{number}")))
+            self.assertEqual(sum(it.quantity for it in desk.positions() if it.account == "NEW"), number + 1)
+        self.assertGreater(interrupted, 100)
+
     def test_many_orders(self) -> None:
         desk, orders = self.session(), [("RIVER-01", {"CLZ5": number}) for number in range(1, 10001)]
         for turn in range(5):
@@ -108,13 +119,26 @@ class Deadlines(SessionCase):
         del desk
         self.check_children()
 
-    def check_children(self) -> None:
-        """Checks that all processes of sessions end."""
+    def test_copies(self) -> None:
+        """The process of a copy ends with its call."""
+        desk, chance = self.session(), random.Random(5)
+        calls = [lambda: desk.attribution("GRAIN-03"), lambda: desk.cheapest_close("RIVER-01", 1000000, tries=100)]
+        answers, own, interrupted = [call() for call in calls], str(desk._channel._process.pid), 0
+        while interrupted < 30:
+            which = chance.randrange(2)
+            got = self.within(chance.uniform(1e-4, 0.05), calls[which])
+            interrupted += got is None
+            self.assertIn(got, (None, answers[which]))
+            self.check_children(own)
+        self.assertEqual([call() for call in calls], answers)
+
+    def check_children(self, *own: str) -> None:
+        """Checks that all processes of sessions end, but these."""
         gc.collect()
         latest = time.monotonic() + LONGEST
-        while children() and time.monotonic() < latest:
+        while children() - {*own} and time.monotonic() < latest:
             time.sleep(0.01)
-        self.assertEqual(children(), set())
+        self.assertEqual(children(), {*own})
 
 
 def children() -> Set[str]:
@@ -204,6 +228,21 @@ class EachLine(SessionCase):
         self.each_line(fill, after)
         self.assertGreater(len(desk.left), 3)
 
+    def test_fills_with_keys(self) -> None:
+        desk, key = self.session(timeout=LONGEST), 1
+
+        def fill() -> None:
+            desk.fill("NEW", {"CLZ5": 1}, key=f"K{key}")
+
+        def after(line: int) -> None:
+            nonlocal key
+            fill()
+            self.assertEqual(sum(it.quantity for it in desk.positions() if it.account == "NEW"), line)
+            key = line + 1
+
+        self.each_line(fill, after)
+        self.assertGreater(len(desk.left), 3)
+
     def test_new_set(self) -> None:
         desk, files = self.session(timeout=LONGEST), (PARAMS.read_bytes(), NEXT.read_bytes())
         place = self.use_temporary_directory()
@@ -219,6 +258,16 @@ class EachLine(SessionCase):
         desk.close()
         gc.collect()
         self.assertEqual(os.listdir(place), [])
+
+    def test_copies(self) -> None:
+        desk, line = self.session(), 1
+        own, before = children(), open_files()
+        quiet = desk.attribution("GRAIN-03")
+        while self.interrupt(lambda: desk.attribution("GRAIN-03"), line):
+            self.wait_for_the_end(before, own)
+            line += 1 + line // 8
+        self.assertGreater(line, 1000)
+        self.assertEqual(desk.attribution("GRAIN-03"), quiet)
 
     def test_opening_and_close(self) -> None:
         before = open_files()
@@ -238,13 +287,13 @@ class EachLine(SessionCase):
         self.wait_for_the_end(before)
         self.assertEqual(os.listdir(place), [])
 
-    def wait_for_the_end(self, files: int) -> None:
-        """Waits until no process of a session is left and no more files are open than before."""
+    def wait_for_the_end(self, files: int, own: Set[str] = frozenset()) -> None:  # type: ignore[assignment]
+        """Waits until no process of a session is left but these, and no more files are open than before."""
         latest = time.monotonic() + LONGEST
-        while (children() or open_files() > files) and time.monotonic() < latest:
+        while (children() - own or open_files() > files) and time.monotonic() < latest:
             gc.collect()
             time.sleep(0.01)
-        self.assertEqual((children(), open_files()), (set(), files))
+        self.assertEqual((children(), open_files()), (set(own), files))
 
 
 def open_files() -> int:

@@ -10,7 +10,10 @@ from pathlib import Path
 from typing import Any, List
 
 import span_margin as span
-from shared import EXAMPLES, PARAMS, POSITIONS, VALUE, SessionCase
+from shared import EXAMPLES, NEXT, ORDERS, PARAMS, POSITIONS, VALUE, SessionCase
+from span_margin import _results
+from span_margin._amounts import UNKNOWN
+from test_results import all_results
 
 NBCONVERT = shutil.which("jupyter-nbconvert")
 KERNEL = Path("/usr/share/jupyter/kernels/python3")
@@ -82,6 +85,65 @@ class Shown(SessionCase):
         for it in shares.shares:
             self.assertIn(f"{it.contract}{it.quantity}{it.share.major()}{it.marginal.major()}", found)
         self.assertIn(f"Total{shares.amount.major()}", found)
+
+
+    def test_all_results(self) -> None:
+        """Each result has a view, whose tags are closed."""
+        for result, _ in all_results():
+            with self.subTest(result):
+                found = text_of(result)
+                self.assertTrue(found and "<" not in found, found)
+
+    def test_roll(self) -> None:
+        roll = span.roll(PARAMS, NEXT, POSITIONS)
+        for today, following in zip(roll.today, roll.next):
+            change = (following.total - today.total).major()
+            self.assertIn(f"{today.account}{today.total.major()}{following.total.major()}{change}", text_of(roll))
+        euros = span.roll(PARAMS, NEXT.read_bytes().replace(b",USD", b",JPY"), POSITIONS)
+        self.assertIn("RIVER-0113312.871509294CRACK", text_of(euros))
+        self.assertTrue(text_of(euros).endswith("Amounts are in USD and JPY."))
+        self.assertTrue(text_of(_results.roll(b"", UNKNOWN, UNKNOWN)))
+
+    def test_orders(self) -> None:
+        for params in (PARAMS, VALUE):
+            tried = span.whatif(params, POSITIONS, ORDERS)
+            found = text_of(tried)
+            for order in tried:
+                self.assertIn(f"{order.order}{order.account}{order.before.major()}{order.after.major()}{order.change.major()}", found)
+                self.assertIn(text_of(order).partition("effect")[2].partition("Amounts")[0], found)
+        self.assertIn("There are no orders.", text_of(_results.tried_orders(b"", UNKNOWN)))
+        many = _results.tried_orders(b"".join(b"ORDER,O%d,A,D1,1,2,1\n" % number for number in range(61)), UNKNOWN)
+        self.assertIn("1 more orders are not shown.", text_of(many))
+
+    def test_close(self) -> None:
+        desk = self.session()
+        close = desk.cheapest_close("RIVER-01", 1000000, only=["HOZ5"])
+        found = text_of(close)
+        for words in ("total before13312.87", "target10000.00", "total after9482.95", "HOZ5HO-1111", "none costs less"):
+            self.assertIn(words, found)
+        self.assertIn("No order reaches the target.", text_of(desk.cheapest_close("RIVER-01", 0, only=["HOZ5"])))
+        self.assertNotIn("Contract", text_of(desk.cheapest_close("RIVER-01", 10**9)))
+
+    def test_comparison(self) -> None:
+        for before, after in ((PARAMS, NEXT), (VALUE, VALUE)):
+            both = span.compare(span.explain(before, POSITIONS), span.explain(after, POSITIONS))
+            found = text_of(both)
+            for account in both.accounts:
+                total = account.total
+                self.assertIn(f"{account.account}{total.before.major()}{total.after.major()}{total.change.major()}", found)
+            self.assertIn(f"All{both.total.before.major()}{both.total.after.major()}", found)
+        unknown = span.compare(both.before, span.Explanation(bytes(both.after)))
+        self.assertTrue(text_of(unknown).endswith("Amounts are in minor units of an unknown currency."))
+        fewer = span.compare(span.explain(PARAMS, POSITIONS), span.explain(PARAMS, b"NEW,CLZ5,1\n"))
+        self.assertIn("only after", text_of(fewer))
+
+    def test_hostile_names(self) -> None:
+        """Names are text, and not tags."""
+        for result in (
+            _results.tried_orders(b"ORDER,<b>,</table>,D1,1,2,1\n", UNKNOWN), _results.positions(b"<b>,</table>,1\n", "D1"),
+            _results.roll(b"T,<b>,<i>,1\nT,<b>,<u>,1\n", UNKNOWN, UNKNOWN), _results.account_total(b"T,<b>,D1,1\n", UNKNOWN),
+        ):
+            self.assertIn("<b>", text_of(result))
 
 
 class Notebook(unittest.TestCase):

@@ -81,6 +81,9 @@ class Wheel(Case):
         about = email.message_from_bytes(found[f"{INFO}/METADATA"])
         self.assertEqual((about["Name"], about["Version"], about["Requires-Python"]), ("span-margin", span.__version__, ">=3.9"))
         self.assertNotIn("Requires-Dist", about)
+        self.assertEqual((about["Author"], about["License"]), ("The maintainers of span", "No licence has been chosen yet"))
+        self.assertIn("No licence has been chosen yet.", (PACKAGE.parent / "README.md").read_text(encoding="utf-8"))
+        self.assertTrue(about["Summary"].startswith("Margin requirements of futures and options"))
         self.assertEqual(about.get_payload(), (PACKAGE / "README.md").read_text(encoding="utf-8"))
         self.assertEqual(about["Description-Content-Type"], "text/markdown")
         self.assertIn("Programming Language :: Python :: 3.9", about.get_all("Classifier"))
@@ -113,7 +116,16 @@ class Wheel(Case):
         tag = email.message_from_bytes(found.pop(f"{INFO}/WHEEL"))
         self.assertEqual((tag["Tag"], tag["Root-Is-Purelib"]), (f"py3-none-{PLATFORM}", "false"))
         self.assertEqual(set(plain) - set(found), {f"{INFO}/WHEEL"})
-        self.assertEqual({name for name in found if plain[name] != found[name]}, {f"{INFO}/RECORD"})
+        self.assertEqual({name for name in found if plain[name] != found[name]}, {f"{INFO}/RECORD", f"{INFO}/entry_points.txt"})
+        commands = plain[f"{INFO}/entry_points.txt"]
+        self.assertEqual(found[f"{INFO}/entry_points.txt"], commands + b"span = span_margin._own:main\n")
+
+    def test_command_of_the_program(self) -> None:
+        """The command `span` gets its arguments, and the program does not ignore the signals that Python ignores."""
+        words = ["-c", 'grep SigIgn /proc/$$/status; printf "%s\\n" "$@"', "sh", "a b", "", "--", "-x"]
+        script = "import sys; from span_margin import _own; _own.OWN = '/bin/sh'; _own.main()"
+        found = subprocess.check_output([sys.executable, "-c", script, *words])
+        self.assertEqual(found, subprocess.check_output(["/bin/sh", *words]))
 
     def test_which_program(self) -> None:
         """The argument, then SPAN, the program in the wheel, PATH and the clone."""
@@ -121,7 +133,7 @@ class Wheel(Case):
             (self.room / name).parent.mkdir(exist_ok=True)
             shutil.copy("/bin/true", self.room / name)
         self.use(SPAN=str(self.room / "environment"), PATH=str(self.room / "path"))
-        self.enter(mock.patch.object(_program, "_OWN", self.room / "wheel"))
+        self.enter(mock.patch.object(_program, "OWN", self.room / "wheel"))
         self.enter(mock.patch.object(_program, "_CLONE", self.room / "clone"))
         self.assertEqual(_program.find(self.room / "argument"), str(self.room / "argument"))
         for name in ("environment", "wheel", "path/span", "clone"):
@@ -169,8 +181,10 @@ class Installed(Case):
             said = subprocess.check_output([python, "-c", script, str(PARAMS)], env=environment, text=True)
             self.assertTrue(said.startswith(str(self.room / "venv")), said)
             self.assertTrue(said.endswith(" D20251114\n"), said)
-        self.assertEqual(subprocess.check_output([f"{self.room}/venv/bin/span-report", "--version"], text=True),
-                         f"span-report {span.__version__}\n")
+        for name in ("span-report", "span-desk"):
+            said = subprocess.check_output([f"{self.room}/venv/bin/{name}", "--version"], text=True)
+            self.assertEqual(said, f"{name} {span.__version__}\n")
+        self.assertFalse((self.room / "venv/bin/span").exists())
 
     @unittest.skipUnless(glibc() >= (2, 34), "the C library is older than the wheel requires")
     def test_wheel_with_program(self) -> None:
@@ -184,3 +198,5 @@ class Installed(Case):
         script = "import span_margin as span, sys; print(span.margin(*sys.argv[1:])['RIVER-01'].total)"
         said = subprocess.check_output([python, "-c", script, str(PARAMS), str(POSITIONS)], env=environment, text=True)
         self.assertEqual(said, "1331287\n")
+        said = subprocess.check_output([self.room / "venv/bin/span", "margin", PARAMS, POSITIONS], env=environment)
+        self.assertEqual(said, (EXAMPLES / "statement-broker.csv").read_bytes())

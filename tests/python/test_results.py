@@ -1,22 +1,25 @@
 """Results: the bytes that span printed, lines that become objects when they are asked for, names, and data frames."""
 import copy
+import csv
 import dataclasses
 import hashlib
 import io
 import json
 import os
 import pickle
+import threading
 import time
 import unittest
 from decimal import Decimal
 from pathlib import Path
-from typing import Any, Callable, List, Tuple
+from typing import Any, Callable, Dict, Iterator, List, Tuple
 from unittest import mock
 
 import span_margin as span
 from shared import EXAMPLES, NEXT, ORDERS, PARAMS, POSITIONS, Case
 from span_margin import _lines, _results
 from span_margin._amounts import UNKNOWN, Money
+from span_margin._cached import cached
 
 try:
     import pandas
@@ -305,7 +308,7 @@ class Conversions(Case):
 
     def test_dicts(self) -> None:
         self.assertEqual(_results.account_total(b"T,A,D1,5\n", UNKNOWN).to_dicts(), [
-            {"account": "A", "set": "D1", "total": 5, "value": None, "due": None, "excess": None}])
+            {"account": "A", "set": "D1", "total": 5, "value": None, "due": None, "excess": None, "currency": None}])
         self.assertEqual(_results.set_counts(b"OK,D1,1,2,3,4,5,6\n").to_dicts(), [
             {"set": "D1", "commodities": 1, "contracts": 2, "tiers": 3, "intras": 4, "spots": 5, "inters": 6}])
         (hedge,) = _results.tried_order(HEDGE, UNKNOWN).to_dicts()
@@ -320,6 +323,88 @@ class Conversions(Case):
         tried = _results.tried_orders_of(parts, DOLLARS)
         self.assertEqual((bytes(tried), len(tried), tried.currency, tried.set), (b"".join(parts), len(parts), "USD", "D20251114"))
         self.assertEqual([bytes(it) for it in tried], parts)
+
+
+WITHOUT_AMOUNTS = ("months", "inters", "sets", "faults", "positions")  # kinds that have no currency
+
+
+def dicts_in(value: Any) -> Iterator[Dict[str, Any]]:
+    """The dicts in dicts and lists."""
+    if isinstance(value, dict):
+        yield value
+    for it in value.values() if isinstance(value, dict) else value if isinstance(value, list) else ():
+        yield from dicts_in(it)
+
+
+class Currencies(Case):
+    def test_last_column(self) -> None:
+        """Each kind with amounts has the currency as its last column, in CSV and in data frames, even if no row has an amount."""
+        for result, printed in all_results():
+            for kind in result._kinds:
+                with self.subTest(result, kind=kind):
+                    head, *rows = csv.reader(io.StringIO(result.to_csv(kind)))
+                    self.assertEqual("currency" in head, kind not in WITHOUT_AMOUNTS)
+                    if kind not in WITHOUT_AMOUNTS:
+                        self.assertEqual((head[-1], {row[-1] for row in rows}), ("currency", {"USD"} if printed else set()))
+                    if pandas:
+                        frame = result.to_pandas(kind)
+                        self.assertEqual(list(frame.columns), head)
+                        self.assertEqual(frame.to_csv(index=False), result.to_csv(kind))
+
+    def test_dicts(self) -> None:
+        """The dict of each line with amounts has the currency, and other dicts have none."""
+        for result, _ in all_results():
+            for found in (result.to_dicts(), json.loads(result.to_json())):
+                for it in dicts_in(found):
+                    with self.subTest(str(it)[:80]):
+                        amounts = {"total", "value", "sums", "scan_risk", "charge", "price_risk", "rate", "before", "requirement"} & {*it}
+                        is_line = not {"margin", "roll"} & {*it}
+                        self.assertEqual(it.get("currency"), "USD" if amounts and is_line else None)
+        self.assertEqual(list(_results.account_total(b"T,A,D1,5\n", DOLLARS).to_dict())[-1], "currency")
+
+    def test_unknown(self) -> None:
+        statement = _results.statement(STATEMENT, UNKNOWN)
+        self.assertEqual({it["currency"] for it in statement.to_dicts()}, {None})
+        self.assertEqual({row["currency"] for row in csv.DictReader(io.StringIO(statement.to_csv()))}, {""})
+        if pandas:
+            self.assertEqual(list(statement.to_pandas().currency.isna().unique()), [True])
+
+    def test_of_two_statements(self) -> None:
+        """Each statement of a roll has its own currency, also in lines that pandas cannot read exactly."""
+        large = _results.roll(f"T,A,D1,{2**70}\nT,A,D2,6\n".encode(), DOLLARS, Money("JPY"))
+        for roll in (_results.roll(ROLL, DOLLARS, Money("JPY")), large):
+            rows = list(csv.DictReader(io.StringIO(roll.to_csv("accounts"))))
+            self.assertEqual({(row["roll"], row["currency"]) for row in rows}, {("today", "USD"), ("next", "JPY")})
+            self.assertEqual([it["accounts"][0]["currency"] for it in roll.to_dicts()], ["USD", "JPY"])
+            if pandas:
+                frame = roll.to_pandas("accounts")
+                self.assertEqual(list(frame.currency), [row["currency"] for row in rows])
+                self.assertEqual(list(frame.columns), list(rows[0]))
+
+    def test_lines(self) -> None:
+        """Lines know their currency, and copies of them, too. It does not count when they are compared."""
+        explanation = _results.explanation(EXPLANATION, DOLLARS)
+        commodity = explanation["RIVER-01"]["CL"]
+        for line in (commodity.margin, commodity.held[0], commodity.sums, commodity.scan, commodity.short, explanation["RIVER-01"]):
+            self.assertEqual((line.currency, pickle.loads(pickle.dumps(line)).currency), ("USD", "USD"))
+        self.assertEqual(commodity.held, _results.explanation(EXPLANATION, UNKNOWN)["RIVER-01"]["CL"].held)
+        self.assertFalse(hasattr(commodity.months[0], "currency"))
+
+    def test_hostile_names(self) -> None:
+        """Names that CSV has to quote, and that look like formulas, numbers or missing values."""
+        names = ('"', '"A"', "'", "=1+1", "-5", "007", "NA", ";", "\\\\", "#", "A\"B")
+        printed = "".join(f"R,{it},{it},{it},1,14,2,3,4,5,6\nT,{it},{it},6\n" for it in names).encode()
+        for kind, width in (("accounts", 7), ("commodities", 11)):
+            rows = list(csv.reader(io.StringIO(_results.statement(printed, DOLLARS).to_csv(kind))))
+            self.assertEqual([row[:2] for row in rows[1:]], [[it, it] for it in names])
+            self.assertEqual({len(row) for row in rows}, {width})
+        wrong = _results.statement(b"T,A,D1,5\nT,A\rB,D1,5\n", DOLLARS)
+        self.error(span.ProgramError, wrong.to_csv, "accounts")
+        self.error(span.ProgramError, _results.faults(b"positions: B1 UnknownContract at record 2 account A\rB\n").to_csv)
+
+    def test_unknown_kind(self) -> None:
+        for result, _ in all_results():
+            self.assertIn("the kinds are", str(self.error(ValueError, result.to_csv, "nothing")))
 
 
 @unittest.skipUnless(pandas, "there is no pandas")
@@ -369,7 +454,7 @@ class Frames(Case):
     def test_roll(self) -> None:
         roll = _results.roll(ROLL, DOLLARS, DOLLARS)
         frame = roll.to_pandas("accounts")
-        self.assertEqual(list(frame.columns), ["roll", "account", "set", "total", "value", "due", "excess"])
+        self.assertEqual(list(frame.columns), ["roll", "account", "set", "total", "value", "due", "excess", "currency"])
         self.assertEqual(list(frame.total), [it.total for statement in roll for it in statement])
         self.assertEqual(list(frame.roll), ["today"] * 7 + ["next"] * 7)
         self.assertEqual(set(frame[frame.roll == "next"].set), {"D20251117"})
@@ -412,6 +497,44 @@ class Frames(Case):
     def test_unknown_kind(self) -> None:
         for result, _ in all_results():
             self.assertIn("the kinds are", str(self.error(ValueError, result.to_pandas, "nothing")))
+
+
+class Slow:
+    """An object whose value takes as long as `wait`."""
+
+    def __init__(self, wait: Callable[[], object]) -> None:
+        self.wait = wait
+
+    @cached
+    def value(self) -> object:
+        self.wait()
+        return object()
+
+
+class Cached(Case):
+    def test_other_objects(self) -> None:
+        """A value that one thread computes keeps no other thread from the values of other objects."""
+        begun, end = threading.Event(), threading.Event()
+
+        def wait() -> None:
+            begun.set()
+            end.wait(60)
+
+        slow = Slow(wait)
+        thread = threading.Thread(target=lambda: slow.value)
+        thread.start()
+        begun.wait(60)
+        self.assertIsNotNone(Slow(lambda: None).value)
+        self.assertTrue(thread.is_alive())
+        end.set()
+        thread.join()
+
+    def test_once(self) -> None:
+        """If another thread has the value first, its value stays."""
+        first = object()
+        slow = Slow(lambda: vars(slow).setdefault("value", first))
+        self.assertIs(slow.value, first)
+        self.assertIs(slow.value, first)
 
 
 class Large(Case):

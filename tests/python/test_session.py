@@ -311,14 +311,112 @@ class Currencies(Case):
         os.mkfifo("pipe")
         threading.Thread(target=lambda: Path("pipe").write_bytes(PARAMS.read_bytes())).start()
         desk = self.session("pipe")
-        self.assertEqual((desk.margin("RIVER-01").total, desk.margin("RIVER-01").total.currency), (1331287, None))
+        self.assertEqual((desk.margin("RIVER-01").total, desk.margin("RIVER-01").total.currency), (1331287, "USD"))
 
     def test_file_is_replaced(self) -> None:
+        """The program reads what the package has read, also if the file is replaced between the two."""
         Path("set.csv").write_bytes(self.params("USD"))
-        desk = self.stand_in("read line; echo OK,OTHER,0,0,0,0,0,0; echo done,1; read line; echo T,A,OTHER,5; echo done,2; read line")
-        self.error(span.FileChangedError, desk.use_set, "set.csv")
-        margin = desk.margin("A")
-        self.assertEqual((desk.set, margin.total, margin.currency), ("OTHER", 5, None))
+        Path("next.csv").write_bytes(self.params("EUR", "LATER"))
+        desk = self.stand_in("read -r line; cp next.csv set.csv; $SPAN_REAL check ${line#SET,}; echo done,1; read a; "
+                             "echo T,A,D20251114,5; echo done,2; read b")
+        self.assertEqual((desk.use_set("set.csv").set, desk.set, desk.margin("A").total.currency), ("D20251114", "D20251114", "USD"))
+
+
+class Files(Case):
+    """Parameter files that are pipes, have no end, or are too long. A session that does not get one goes on."""
+
+    def setUp(self) -> None:
+        super().setUp()
+        os.mkfifo("pipe")
+        self.place = self.use_temporary_directory()
+
+    def write(self, content: bytes, parts: int = 1) -> threading.Thread:
+        """Writes a content into the pipe, in parts, in another thread."""
+
+        def work() -> None:
+            with open("pipe", "wb", buffering=0) as file:
+                size = -(-len(content) // parts)
+                for begin in range(0, len(content), size):
+                    time.sleep(0.1)
+                    file.write(content[begin : begin + size])
+
+        thread = threading.Thread(target=work)
+        thread.start()
+        self.addCleanup(thread.join)
+        return thread
+
+    def check(self, desk: span.Session) -> None:
+        self.assertEqual((desk.set, desk.margin("RIVER-01").total, desk.left), ("D20251114", 1331287, ()))
+        self.assertEqual(os.listdir(self.place), [])
+
+    def interrupt(self, call: Any) -> None:
+        """A call that an alarm interrupts."""
+
+        def ring(*_: Any) -> None:
+            raise KeyboardInterrupt
+
+        before = signal.signal(signal.SIGALRM, ring)
+        self.addCleanup(signal.signal, signal.SIGALRM, before)
+        signal.setitimer(signal.ITIMER_REAL, 0.3)
+        self.error(KeyboardInterrupt, call)
+
+    def test_waits_for_a_writer(self) -> None:
+        desk = self.session()
+        self.write(NEXT.read_bytes(), parts=3)
+        self.assertEqual(desk.use_set("pipe").set, "D20251117")
+        self.assertEqual((desk.margin("RIVER-01").total, desk.margin("RIVER-01").total.currency), (1509294, "USD"))
+
+    def test_without_a_writer(self) -> None:
+        """A call that gave up takes nothing from a later writer."""
+        desk, params, following = self.session(), PARAMS.read_bytes(), NEXT.read_bytes()
+        for _ in range(3):
+            self.error(span.TimedOut, lambda: desk.use_set("pipe", timeout=0.2))
+            self.check(desk)
+            self.write(following)
+            self.assertEqual(desk.use_set("pipe").set, "D20251117")
+            self.interrupt(lambda: desk.use_set("pipe"))
+            self.write(params)
+            self.assertEqual(desk.use_set("pipe").set, "D20251114")
+            self.check(desk)
+
+    def test_opening(self) -> None:
+        self.error(span.TimedOut, lambda: span.Session("pipe", POSITIONS, timeout=0.2))
+        self.interrupt(lambda: span.Session("pipe", POSITIONS))
+        self.write(PARAMS.read_bytes(), parts=2)
+        self.check(self.session("pipe"))
+
+    def test_closed_meanwhile(self) -> None:
+        desk, errors = self.session(), []
+        thread = threading.Thread(target=lambda: errors.append(self.error(span.SessionEnded, desk.use_set, "pipe")))
+        thread.start()
+        time.sleep(0.1)
+        desk.close()
+        thread.join()
+        self.assertEqual([str(it) for it in errors], ["the session is closed"])
+        self.error(span.SessionEnded, desk.use_set, "pipe")
+
+    def test_without_an_end(self) -> None:
+        desk = self.session()
+        self.assertEqual(self.error(span.FileError, desk.use_set, "/dev/zero").status, None)
+        self.check(desk)
+        self.assertEqual(self.error(span.FileError, span.Session, "/dev/zero", POSITIONS).status, 6)
+
+    def test_too_long(self) -> None:
+        """The longest file is read, and one that is longer by a byte is not, nor a longer pipe."""
+        desk, params = self.session(), PARAMS.read_bytes()
+        with open("long", "wb") as file:
+            file.truncate((1 << 26) + 1)
+        self.assertIn("longer than", self.error(span.FileError, desk.use_set, "long").reason)
+        with unittest.mock.patch("span_margin._inputs.LONGEST_FILE", len(params)):
+            self.assertEqual(desk.use_set(PARAMS).set, "D20251114")
+            with open("long", "wb") as file:
+                file.write(params + b"\n")
+            self.error(span.FileError, desk.use_set, "long")
+            self.write(params)
+            self.assertEqual(desk.use_set("pipe").set, "D20251114")
+            self.write(params + b"\n")
+            self.error(span.FileError, desk.use_set, "pipe")
+        self.check(desk)
 
 
 class Timeouts(Case):
@@ -385,14 +483,20 @@ class Mismatches(Case):
     def test_of_each_call(self) -> None:
         calls: List[Any] = [
             (lambda desk: desk.margin("A"),
-             ["T,B,D20251114,5", "R,B,D20251114,CL,1,1,1,1,1,1,1\\nT,A,D20251114,5", "OK,A,1,1,1,1,1,1", ""]),
-            (lambda desk: desk.explain("A"), ["T,B,D20251114,5", "HELD,B,D20251114,CL\\nT,A,D20251114,5", "CHANGE,A,B\\nT,A,D20251114,5"]),
+             ["T,B,D20251114,5", "R,B,D20251114,CL,1,1,1,1,1,1,1\\nT,A,D20251114,5", "OK,A,1,1,1,1,1,1", "",
+              "T,A,OTHER,5", "T,A,D20251114V,5", "R,A,OTHER,CL,1,1,1,1,1,1,1\\nT,A,D20251114,5"]),
+            (lambda desk: desk.explain("A"),
+             ["T,B,D20251114,5", "HELD,B,D20251114,CL\\nT,A,D20251114,5", "CHANGE,A,B\\nT,A,D20251114,5",
+              "HELD,A,OTHER,CL\\nT,A,D20251114,5"]),
             (lambda desk: desk.try_order("A", {"C": 1}, "N"),
-             ["ORDER,M,A,D20251114,1,2,1", "ORDER,N,B,D20251114,1,2,1", "T,A,D20251114,5", ""]),
+             ["ORDER,M,A,D20251114,1,2,1", "ORDER,N,B,D20251114,1,2,1", "T,A,D20251114,5", "", "ORDER,N,A,OTHER,1,2,1"]),
             (lambda desk: desk.try_orders([("A", {"C": 1})]), ["CHANGE,TRY,B,D20251114,CL,1,2,1\\nORDER,TRY,A,D20251114,1,2,1"]),
-            (lambda desk: desk.fill("A", {"C": 1}), ["T,B,D20251114,5", "R,A,D20251114,CL,1\\nT,A,D20251114,5", "T,AA,D20251114,5", ""]),
-            (lambda desk: desk.use_set(PARAMS), ["T,A,D20251114,5", "OK,D1,1,1,1,1,1,1\\nOK,D1,1,1,1,1,1,1", ""]),
-            (lambda desk: desk.margin(), ["R,A,D20251114,CL,1,1,1,1,1,1,1", "T,A,D20251114,5\\nHELD,A\\nT,B,D20251114,5"]),
+            (lambda desk: desk.fill("A", {"C": 1}),
+             ["T,B,D20251114,5", "R,A,D20251114,CL,1\\nT,A,D20251114,5", "T,AA,D20251114,5", "", "T,A,OTHER,5"]),
+            (lambda desk: desk.use_set(PARAMS), ["T,A,D20251114,5", "OK,D1,1,1,1,1,1,1\\nOK,D1,1,1,1,1,1,1", "", "OK,OTHER,1,1,1,1,1,1"]),
+            (lambda desk: desk.margin(),
+             ["R,A,D20251114,CL,1,1,1,1,1,1,1", "T,A,D20251114,5\\nHELD,A\\nT,B,D20251114,5", "T,A,OTHER,5",
+              "T,D20251114,OTHER,5\\nT,B,D20251114,5", "R,A,OTHER,CL,1,1,1,1,1,1,1\\nT,A,D20251114,5"]),
         ]
         for number, (call, answers) in enumerate(calls):
             for answer in answers:
@@ -406,6 +510,23 @@ class Mismatches(Case):
     def test_answer_before_its_request(self) -> None:
         self.use_program("printf 'OK,D20251114,0,0,0,0,0,0\\ndone,0\\nT,A,D20251114,5\\ndone,1\\n'; read request; sleep 60")
         self.assertIn("more than its answers", self.error(span.ProgramError, span.Session, PARAMS, POSITIONS).line)
+
+    def test_other_set_is_opened(self) -> None:
+        """The id that the program prints is not the one of the file."""
+        self.use_program("echo OK,OTHER,0,0,0,0,0,0; echo done,0; sleep 60")
+        self.assertIn("OTHER", self.error(span.ProgramError, span.Session, PARAMS, POSITIONS).line)
+
+    def test_without_an_end(self) -> None:
+        """A program that prints for ever is ended, also if it prints ends of answers, or if nobody waits any more."""
+        orders = [("A", {"CLZ5": 1})] * 100
+        for call in (lambda desk: desk.margin("A"), lambda desk: desk.try_orders(orders), lambda desk: desk.fill("A", {"CLZ5": 1})):
+            for line in ("T,A,D20251114,5", "done,1"):
+                desk = self.stand_in(f"read request; exec yes {line}")
+                self.assertIn("the session", self.error(span.SessionEnded, call, desk).line)
+                self.assertTrue(desk.closed)
+        desk = self.stand_in("read request; sleep 0.3; exec yes T,A,D20251114,5")
+        self.error(span.TimedOut, lambda: desk.margin("A", timeout=0.1))
+        self.assertIn("without the end", self.error(span.SessionEnded, desk.margin, "A").line)
 
     def test_lines_with_a_rejection(self) -> None:
         desk = self.stand_in("read request; echo T,A,D20251114,5; echo refused,1,memory; sleep 60")
@@ -541,6 +662,15 @@ class Ends(Case):
         desk.close()
         thread.join()
         self.assertEqual((len(errors), time.monotonic() - begun < 5), (1, True))
+
+    def test_stopped(self) -> None:
+        """A process that a signal has stopped is killed. It would not end for a long time otherwise."""
+        with unittest.mock.patch("span_margin._channel.PATIENCE", 3600):
+            desk = self.session()
+            process = desk._channel._process
+            os.kill(process.pid, signal.SIGSTOP)
+            desk.close()
+        self.assertEqual(process.returncode, -signal.SIGKILL)
 
     def test_does_not_end(self) -> None:
         with unittest.mock.patch("span_margin._channel.PATIENCE", 0.1):

@@ -27,7 +27,6 @@ if TYPE_CHECKING:
         FileError,
         OutOfMemoryError,
         ParametersError,
-        PositionsChangedError,
         PositionsError,
         ProgramError,
         RequestError,
@@ -70,7 +69,7 @@ if TYPE_CHECKING:
     )
     from span_margin._session import Left, Outcome, Session
 
-__version__ = "1.3.0"
+__version__ = "1.4.0"
 
 __all__ = [
     "AccountChange",
@@ -110,7 +109,6 @@ __all__ = [
     "Position",
     "PositionChange",
     "Positions",
-    "PositionsChangedError",
     "PositionsError",
     "ProgramError",
     "RequestError",

@@ -1,4 +1,4 @@
-"""The command `python -m span_margin WORD`: what the package does for a shell."""
+"""The command `span-desk WORD`, which is `python -m span_margin WORD`, too: what the package does for a shell."""
 import argparse
 from functools import partial
 from typing import Callable, Dict, NamedTuple
@@ -6,14 +6,14 @@ from typing import Callable, Dict, NamedTuple
 from span_margin import __version__, _convert, _desk, report
 from span_margin._streams import STATUSES, Arguments, finish, write_output
 
-COMMAND = "python -m span_margin"
-EXAMPLES = f"""examples:
-  span margin PARAMS POSITIONS | {COMMAND} table --major 2
-  span explain PARAMS POSITIONS | {COMMAND} csv --only HELD
-  span explain PARAMS POSITIONS | {COMMAND} report -o report.html
-  {COMMAND} attribution PARAMS POSITIONS ACCOUNT
-  {COMMAND} cheapest-close PARAMS POSITIONS ACCOUNT 1000000
-  {COMMAND} compare YESTERDAY TODAY
+DESK, MODULE = "span-desk", "python -m span_margin"  # how the command may be called
+EXAMPLES = """examples:
+  span margin PARAMS POSITIONS | {name} table --major 2
+  span explain PARAMS POSITIONS | {name} csv --only HELD
+  span explain PARAMS POSITIONS | {name} report -o report.html
+  {name} attribution PARAMS POSITIONS ACCOUNT
+  {name} cheapest-close PARAMS POSITIONS ACCOUNT 1000000
+  {name} compare YESTERDAY TODAY
 """
 
 
@@ -41,29 +41,34 @@ WORDS: Dict[str, Word] = {
 }
 
 
-def command_line() -> Arguments:
+def command_line(name: str) -> Arguments:
     """The words, each with its own help, and one list of exit statuses."""
     layout = argparse.RawDescriptionHelpFormatter
-    about = "Shows what span prints, and answers questions from it. `python -m span_margin WORD --help` describes a word."
-    parser = Arguments(COMMAND, description=about, epilog=f"{EXAMPLES}\n{STATUSES}", formatter_class=layout)
+    about = f"Shows what span prints, and answers questions from it. `{name} WORD --help` describes a word."
+    parser = Arguments(name, description=about, epilog=f"{EXAMPLES.format(name=name)}\n{STATUSES}", formatter_class=layout)
     parser.add_argument("--version", action="store_true", help="print the version")
     words = parser.add_subparsers(dest="word", metavar="WORD", title="words")
-    for name, word in WORDS.items():
-        word.add_options(words.add_parser(name, help=word.about, description=f"{word.about[0].upper()}{word.about[1:]}.", epilog=STATUSES,
+    for each, word in WORDS.items():
+        word.add_options(words.add_parser(each, help=word.about, description=f"{word.about[0].upper()}{word.about[1:]}.", epilog=STATUSES,
                                           formatter_class=layout))
     return parser
 
 
-def run() -> None:
-    parser = command_line()
+def run(name: str) -> None:
+    parser = command_line(name)
     chosen = parser.parse_args()
     if chosen.word:
         WORDS[chosen.word].run(chosen)
     elif chosen.version:
-        write_output("version", f"span_margin {__version__}\n".encode())
+        write_output("version", f"{'span_margin' if name == MODULE else name} {__version__}\n".encode())
     else:
         parser.error("there is no word")
 
 
+def main(name: str = DESK) -> None:
+    """The command `span-desk`."""
+    finish(name, partial(run, name))
+
+
 if __name__ == "__main__":
-    finish(COMMAND, run)
+    main(MODULE)

@@ -1,7 +1,7 @@
 """Amounts of money in minor units, as the program prints them, and the currency that they are in."""
 from decimal import Decimal
 from functools import lru_cache
-from typing import Any, Callable, ClassVar, NamedTuple, Optional, Tuple, Type, TypeVar, cast
+from typing import Any, Callable, ClassVar, Iterable, NamedTuple, Optional, Tuple, Type, TypeVar, cast
 
 from span_margin._errors import CurrencyError
 
@@ -120,12 +120,17 @@ class ExactAmount(Decimal):
         return _again, (ExactAmount, str(self), self.currency, self.digits)
 
 
-_AMOUNTS = (Amount, ExactAmount)
+AMOUNTS = (Amount, ExactAmount)
+
+
+def currency_of(values: Iterable[object]) -> Optional[str]:
+    """The currency of the first amount that has one. None if there is none."""
+    return next((it.currency for it in values if isinstance(it, (*AMOUNTS, Money)) and it.currency), None)
 
 
 def _differ(amount: Any, other: object) -> bool:
     """Whether another object is an amount of another currency."""
-    return isinstance(other, _AMOUNTS) and None not in (amount.currency, other.currency) and amount.currency != other.currency
+    return isinstance(other, AMOUNTS) and None not in (amount.currency, other.currency) and amount.currency != other.currency
 
 
 def _mixed(amount: Any, other: Any) -> CurrencyError:
@@ -137,7 +142,7 @@ def _joined(amount: Kind, other: Any, value: Any) -> Kind:
     if _differ(amount, other):
         raise _mixed(amount, other)
     kind: Any = type(amount)
-    if kind.currency is None and isinstance(other, _AMOUNTS) and other.currency is not None:
+    if kind.currency is None and isinstance(other, AMOUNTS) and other.currency is not None:
         kind = _class_of(Amount if isinstance(amount, Amount) else ExactAmount, other.currency, other.digits)
     return cast(Kind, value if value is NotImplemented else kind(value))
 
@@ -162,7 +167,7 @@ def _comparison(name: str, compare: Callable[[Any, Any], Any], differ: Optional[
     return compared
 
 
-for _kind in _AMOUNTS:
+for _kind in AMOUNTS:
     for _name, _if_they_differ in (("lt", None), ("le", None), ("gt", None), ("ge", None), ("eq", False), ("ne", True)):
         _name = f"__{_name}__"
         setattr(_kind, _name, _comparison(_name, getattr(_kind.__mro__[1], _name), _if_they_differ))

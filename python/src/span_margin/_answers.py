@@ -1,40 +1,54 @@
 """Answers that are computed from what the program printed: objects that are also tables, as CSV, JSON and data frames."""
-import csv
-import io
 import json
 from dataclasses import dataclass, fields
-from decimal import Decimal
 from typing import Any, Callable, Dict, List, NamedTuple, Optional, Sequence, Tuple, Type
 
-from span_margin._frames import Kinds, frame_of_rows
-from span_margin._lines import Line
+from span_margin._amounts import AMOUNTS, Amount, currency_of
+from span_margin._frames import Kinds, csv_of_rows, frame_of_rows
+from span_margin._lines import Line, Shown
 
 
 class Table(NamedTuple):
-    """The columns of a table, their classes, and the rows. None is a missing value."""
+    """The columns of a table, their classes, and the rows. None is a missing value. A column of the class `object` may have amounts."""
 
     columns: Sequence[str]
     kinds: Kinds
     rows: List[Sequence[Any]]
+
+    def with_currency(self, currency: Optional[str]) -> "Table":
+        """If the table may have amounts, the same with a last column `currency`, which is missing if amounts of rows are."""
+        if not {Amount, object} & {*self.kinds}:
+            return self
+        rows = [(*row, currency if Amount in self.kinds or has_amount(row) else None) for row in self.rows]
+        return Table([*self.columns, "currency"], [*self.kinds, str], list(rows))
 
 
 Make = Callable[[], Table]
 
 
 @dataclass(frozen=True)
-class Answer(Line):
+class Answer(Line, Shown):
     """An answer that is computed from what the program printed, as `help` of its class says. It cannot be changed."""
 
     def _tables(self) -> Dict[str, Make]:
         """What makes the tables, by their kinds, the default first."""
         raise NotImplementedError
 
+    @property
+    def currency(self) -> Optional[str]:
+        """The currency of the amounts, such as "USD". None if it is unknown."""
+        return currency_of(vars(self).values())
+
+    def to_dict(self) -> Dict[str, Any]:
+        """The fields by their names, and the currency. Objects in fields are dicts too, and tuples lists."""
+        return {**super().to_dict(), "currency": self.currency}
+
     def _table(self, of: Optional[str]) -> Table:
         tables = self._tables()
         kind = next(iter(tables)) if of is None else of
         if kind not in tables:
-            raise ValueError(f"unknown kind {kind}; the kinds are {', '.join(tables)}")
-        return tables[kind]()
+            raise ValueError(f"unknown kind {kind!r}; the kinds are {', '.join(tables)}")
+        return tables[kind]().with_currency(self.currency)
 
     def to_json(self) -> str:
         """The fields as JSON text. Numbers with fractions are strings, so that no digit is lost."""
@@ -42,18 +56,17 @@ class Answer(Line):
 
     def to_csv(self, of: Optional[str] = None) -> str:
         """One table as CSV with a header. A missing value is an empty field. Raises ValueError if there is no such kind."""
-        table, text = self._table(of), io.StringIO()
-        writer = csv.writer(text, lineterminator="\n")
-        writer.writerows((table.columns, *(map(_shown, row) for row in table.rows)))
-        return text.getvalue()
+        table = self._table(of)
+        return csv_of_rows(table.columns, table.rows)
 
     def to_pandas(self, of: Optional[str] = None) -> Any:
         """One table as a pandas data frame. Raises ValueError if there is no such kind, and ImportError if pandas is not installed."""
         return frame_of_rows(*self._table(of))
 
 
-def _shown(value: Any) -> Any:
-    return format(value, "f") if isinstance(value, Decimal) else value
+def has_amount(row: Sequence[Any]) -> bool:
+    """Whether a row has an amount, and not only counts, deltas and words."""
+    return any(isinstance(it, AMOUNTS) for it in row)
 
 
 def cells_of(line: Any, names: Sequence[str]) -> Tuple[Any, ...]:

@@ -7,12 +7,12 @@ import random
 from dataclasses import dataclass
 from math import factorial, isqrt
 from operator import index
-from typing import TYPE_CHECKING, Dict, Iterable, Iterator, List, Mapping, NamedTuple, Optional, Sequence, Tuple
+from typing import TYPE_CHECKING, Callable, Dict, Iterable, Iterator, List, Mapping, NamedTuple, Optional, Sequence, Tuple
 
 from span_margin import _questions
 from span_margin._amounts import Amount
-from span_margin._errors import PositionsChangedError
-from span_margin._lines import FORMS, Held, Line, Shown, fields_of
+from span_margin._errors import ProgramError
+from span_margin._lines import FORMS, Held, Line, Shown, fields_of, unreadable
 from span_margin._program import Deadline
 from span_margin._questions import Question
 from span_margin._results import AccountExplanation, TriedOrders
@@ -95,6 +95,11 @@ class Attribution(Answer, Shown):
         return self.orders is None
 
     @property
+    def positions(self) -> Dict[str, int]:
+        """The positions that the shares are for: the quantity of each contract of the account."""
+        return {share.contract: share.quantity for share in self.shares}
+
+    @property
     def by_commodity(self) -> Dict[str, Amount]:
         """The sum of the shares of the contracts of each commodity."""
         return self.by({share.contract: share.commodity for share in self.shares})
@@ -153,27 +158,29 @@ class Subject(NamedTuple):
                 continue
             if self.of == "due":
                 if fields[DUE_CHANGE] is None:
-                    raise PositionsChangedError(self.account)  # the set in use has no option values any more
+                    raise unreadable(line)
                 row[LESS_TOTAL] = int(fields[DUE_CHANGE]) - int(fields[TOTAL_CHANGE])
             rows.append(row)
             row = {}
         return rows
 
 
-def need_measure(of: str) -> None:
-    """Raises ValueError if `of` is not the name of an amount that is attributed or compared with a target."""
+def amount_of(whole: AccountExplanation, of: str) -> Amount:
+    """The amount that is attributed, or compared with a target. Raises ValueError if there is none that is called `of`."""
     if of not in MEASURES:
         raise ValueError(f"of is {of!r}, and must be total or due")
+    amount = whole.total if of == "total" else whole.due
+    if amount is None:
+        raise ValueError(f"the parameter set {whole.set} has no option values, so there is no due")
+    return amount
 
 
 def subject_of(whole: AccountExplanation, of: str) -> Subject:
     """An account from its explanation. Raises ValueError if it has no amount `of`."""
-    need_measure(of)
+    amount = amount_of(whole, of)
     columns = {it.commodity: int(it.margin.requirement) for it in whole}
     if of == "due":
-        if whole.due is None:
-            raise ValueError(f"the parameter set {whole.set} has no option values, so there is no due")
-        columns[LESS_TOTAL] = int(whole.due) - int(whole.total)
+        columns[LESS_TOTAL] = int(amount) - int(whole.total)
     return Subject(whole.account, [held for it in whole for held in it.held], of, columns)
 
 
@@ -219,11 +226,7 @@ class Values:
 
 
 class Walk(Values):
-    """The same for an account with any number of positions, in a session of its own, which closes and opens them."""
-
-    def open(self) -> None:
-        """Opens all positions, with which other calls begin and end."""
-        self._desk._wait_for(_questions.walked(self._subject.account, self._blocks(range(len(self._subject.held)), 1)), self._deadline)
+    """The same for an account with any number of positions, by fills that close all of them, and open them again."""
 
     def _blocks(self, order: Sequence[int], sign: int) -> List[List[Tuple[str, int]]]:
         """The legs of an order in blocks. Each block is one fill."""
@@ -339,32 +342,22 @@ def largest_remainder(amounts: Dict[int, int], denominator: int) -> Dict[int, in
 # --- The answer ---
 
 
-def attribution(desk: "Desk", account: str, of: str, seed: int, deadline: Deadline) -> Attribution:
-    """What each position of an account contributes, as `Session.attribution` says."""
-    whole = desk._wait_for(_questions.explanation(account), deadline)
-    subject = subject_of(whole, of)
-    if len(subject.held) <= MOST_LEGS:
-        answer = answered(Values(desk, subject, deadline), subject, whole, index(seed))
-        if desk._wait_for(_questions.explanation(account), deadline) != whole:
-            raise PositionsChangedError(account)
-        return answer
-    with desk._empty(deadline) as other:
-        if other.set != whole.set:
-            raise PositionsChangedError(account)
-        walk = Walk(other, subject, deadline)
-        walk.open()
-        return answered(walk, subject, whole, index(seed))
+def asked(whole: AccountExplanation, of: str, seed: int) -> "Callable[[Desk, Deadline], Attribution]":
+    """What asks a copy of the session what each position of an account contributes, as `Session.attribution` says."""
+    subject, chosen = subject_of(whole, of), index(seed)
+    values = Values if len(subject.held) <= MOST_LEGS else Walk
+    return lambda copy, deadline: answered(values(copy, subject, deadline), subject, whole, chosen)
 
 
 def answered(values: Values, subject: Subject, whole: AccountExplanation, seed: int) -> Attribution:
-    """The answer from the values of sets of positions. Raises PositionsChangedError if the parts do not sum to the explanation."""
+    """The answer from the values of sets of positions. Raises ProgramError if the parts do not sum to the explanation."""
     count, columns = len(subject.held), list(subject.columns)
     is_exact = count <= MOST_EXACT
     marginals = [sum(row.values()) for row in values.closing([[at] for at in range(count)])]
     parts, denominator, errors = exact(values, subject) if is_exact else sampled(values, subject, seed)
     for column in {*columns, *(name for part in parts for name in part)}:
         if sum(part.get(column, 0) for part in parts) != denominator * subject.columns.get(column, 0):
-            raise PositionsChangedError(subject.account)
+            raise ProgramError(f"the orders of {subject.account} do not add up to its requirements")
     make = type(whole.total)
     shares = [
         Share(

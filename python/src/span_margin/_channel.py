@@ -15,18 +15,22 @@ import tempfile
 import time
 import weakref
 from queue import Empty, SimpleQueue
-from typing import IO, Callable, Dict, List, NamedTuple, Optional, Sequence, Tuple, Union, cast
+from collections import deque
+from typing import IO, Callable, Deque, Dict, List, NamedTuple, Optional, Sequence, Union, cast
 
 from span_margin._amounts import UNKNOWN, Money
 from span_margin._errors import SessionEnded, SpanError, error_of_status
-from span_margin._program import Deadline, not_run, text_of
+from span_margin._program import SLICE, Deadline, not_run, text_of
 
 CHUNK = 1 << 16  # at most so many bytes are read at once, which is what a pipe holds
 PATIENCE = 10.0  # how many seconds a process has to end after the end of its input
-SLICE = 0.05  # how often a thread looks again at what no queue tells it
 LAST = re.compile(rb"(?:done|refused),([0-9]{1,20})[,\n]")  # how the last line of an answer begins
+ENDS = re.compile(rb"\n" + LAST.pattern)
 LINE_END = ord("\n")
 LONGEST_LAST = 8192  # bytes; a rejection may have the name of a file
+OF_ONE, OF_ALL = 1 << 24, 1 << 28  # bytes; no answer about one account is longer, or about all accounts
+KEYS = 100000  # so many fills with keys are kept
+NO_MEMORY = "memory"  # why a request is refused that may be sent again
 MANY, PAUSE = 64, 0.0005  # after each read, how many missing answers are worth how many seconds, so that few reads take them all
 CHANNEL, CALLER = "channel", "caller"  # who has claimed a request
 
@@ -34,21 +38,26 @@ CHANNEL, CALLER = "channel", "caller"  # who has claimed a request
 class Expected(NamedTuple):
     """The answer that a request must have.
 
-    last     how its last line begins
-    others   how each other line begins, after the end of the line before it; None: in any way
+    last     how its last line begins, up to the id of the parameter set in use
+    others   how each other line begins up to there, after the end of the line before it; None: in any way
     empty    whether it may have no line
+    of_set   whether lines have the id of the set
+    most     how many bytes it may have
     """
 
     last: bytes
     others: Optional[Sequence[bytes]] = ()
     empty: bool = False
+    of_set: bool = True
+    most: int = OF_ONE
 
-    def fits(self, printed: bytes, begin: int, end: int) -> bool:
+    def fits(self, printed: bytes, begin: int, end: int, set_id: bytes) -> bool:
         """Whether the lines in this range are as expected. Before the range there is the end of a line."""
         if begin == end:
             return self.empty
         last = printed.rfind(b"\n", begin - 1, end - 1)  # the end of the line before the last one
-        if printed[end - 1] != LINE_END or not printed.startswith(self.last, last + 1):
+        rest = set_id + b"," if self.of_set else b""
+        if printed[end - 1] != LINE_END or not printed.startswith(self.last + rest, last + 1):
             return False
         if self.others is None:
             return True
@@ -56,37 +65,80 @@ class Expected(NamedTuple):
         for front in self.others:
             if not lines:
                 break
-            lines -= printed.count(front, begin - 1, last)
+            lines -= printed.count(front + rest, begin - 1, last)
         return not lines
+
+
+class OfAnyAccounts(Expected):
+    """R and T lines. The last one is a T line."""
+
+    def fits(self, printed: bytes, begin: int, end: int, set_id: bytes) -> bool:
+        line = re.compile(rb"\n(?:R|(T)),[^,\n]*,%b,[^\n]*(?=\n)" % re.escape(set_id))
+        found, at = None, begin - 1
+        while at < end - 1:
+            found = line.match(printed, at, end)
+            if not found:
+                return False
+            at = found.end()
+        return found is None or found[1] is not None
+
+
+class InUse(NamedTuple):
+    """A parameter set: its id, the currency of amounts under it, and the content of its file. The id of one that was not read yet is
+    empty if the package cannot read it in the file."""
+
+    set: str = ""
+    money: Money = UNKNOWN
+    content: bytes = b""
+
+
+class Key(NamedTuple):
+    """The key of a fill, and the fill in a form that does not depend on the order of its legs."""
+
+    name: str
+    fill: str
+
+
+class First(NamedTuple):
+    """A fill that has a key, and what became of it."""
+
+    fill: str
+    answers: List[bytes]
+    refused: Dict[int, str]
+    set: str
+    money: Money
 
 
 class Request:
     """Lines for the program with their ends, what their answers must be, and what became of them.
 
     lines, expected    the lines with their ends, and the answer of each
-    used               tells the currency of amounts under the set with an id, and the content of its file if that is known, if the request
-                       is one for a set that is accepted
+    used               the parameter set that is used if the request is accepted
     finish             is called when the request needs its files no longer
+    key                the key of a fill, which is carried out once
     wake               is called by the thread of the channel when the request is complete, if `wait` is not used
     answers, refused   the lines of each answer without the last one; and why an answer, by its index, has none
+    differs            whether the key is the one of another fill
     set, money         the id and the currency of the parameter set in use
+    content            the content of its file, if `keeps_content` is set
     end                why the session ended before the answers were complete
     """
 
     wake: Optional[Callable[[], None]] = None
     refused: Dict[int, str] = {}
-    set, money = "", UNKNOWN
+    set, money, content = "", UNKNOWN, b""
     end: Optional["End"] = None
-    complete = drops = False
+    complete = drops = differs = keeps_content = False
 
     def __init__(
         self,
         lines: Sequence[str],
         expected: Sequence[Expected],
-        used: Optional[Callable[[str], Tuple[Money, Optional[bytes]]]] = None,
+        used: Optional[InUse] = None,
         finish: Optional[Callable[[], None]] = None,
+        key: Optional[Key] = None,
     ) -> None:
-        self.lines, self.expected, self.used, self.finish = lines, expected, used, finish
+        self.lines, self.expected, self.used, self.finish, self.key = lines, expected, used, finish, key
         self.answers: List[bytes] = []
         self._woken: "SimpleQueue[None]" = SimpleQueue()
         self._claim: Dict[None, str] = {}
@@ -169,14 +221,15 @@ class Pipes:
         self._both.register(self._stdin, select.POLLOUT)
         self._both.register(self._stdout, select.POLLIN)
 
-    def exchange(self, data: bytes, first: int, last: int) -> bytes:
+    def exchange(self, data: bytes, first: int, last: int, most: int) -> bytes:
         """Writes requests with these numbers and reads their answers, both at the same time. Returns the answers, after the end of a line.
 
-        Raises EOFError if the process ends before.
+        Raises EOFError if the process ends before, and Mismatch if `most` bytes have no end of an answer.
         """
         rest = self._write(data)
         parts, end = [b"\n"], b"\ndone,%d\n" % last
         tail, number = b"\n", first - 1  # the end of what was read, and the number of the last answer in it
+        newest, since = number, 0  # the number of an answer whose end was seen, and how much was read since
         while number < last:
             if rest and all(descriptor != self._stdout for descriptor, _ in self._both.poll()):
                 rest = self._write(rest)
@@ -187,7 +240,14 @@ class Pipes:
             parts.append(printed)
             if printed.endswith(end):
                 break
-            tail = (tail + printed)[-LONGEST_LAST:]
+            seen, since = tail + printed, since + len(printed)
+            tail = seen[-LONGEST_LAST:]
+            if since > most // 2:
+                numbers = [int(it) for it in ENDS.findall(seen)[-1:]]
+                if numbers and newest < numbers[0] <= last:
+                    newest, since = numbers[0], 0
+            if since > most:
+                raise Mismatch(f"the session printed {since} bytes without the end of an answer")
             if printed.endswith(b"\n"):
                 found = LAST.match(tail, tail.rfind(b"\n", 0, -1) + 1)
                 number = int(found[1]) if found else number
@@ -213,8 +273,7 @@ class Channel:
     """A session of the program. Any number of threads may use it. It answers one request after the other."""
 
     def __init__(self, command: Sequence[str], opening: Request) -> None:
-        self.set, self.money = "", UNKNOWN
-        self.content: Optional[bytes] = None  # of the parameter file in use, if it is known
+        self.used = InUse()
         self.end: Optional[End] = None
         self.closing = False  # `close` was called
         self._busy = True  # a request is being answered
@@ -224,6 +283,8 @@ class Channel:
         self._ended: "SimpleQueue[None]" = SimpleQueue()
         self._opening = self._current = opening
         self._number = 0  # of the next answer
+        self._first: Dict[str, First] = {}  # the fills that have keys, by their keys
+        self._keys: Deque[str] = deque()  # the keys, the oldest first
         self._process: Optional["subprocess.Popen[bytes]"] = None
         self._errors: Optional[IO[bytes]] = None
         _channels.add(self)
@@ -237,10 +298,7 @@ class Channel:
 
     def put(self, request: Request) -> None:
         """Sends a request. It is complete when its answers are there. Raises an error if the session has ended."""
-        if self._pid != os.getpid():
-            raise SessionEnded("a session can be used only in the process that opened it")
-        if self.closing or self.end:
-            raise (self.end or End()).of_call()
+        self.check()
         if not request.lines:
             request.close()
             return
@@ -248,13 +306,21 @@ class Channel:
         if self.end and not request.complete:  # perhaps the thread does not take it any more
             raise self.end.of_call()
 
-    def close(self, wait: bool = True) -> None:
-        """Ends the session and its process at once. Requests that are not answered end with SessionEnded."""
+    def check(self) -> None:
+        """Raises an error if the session has ended."""
+        if self._pid != os.getpid():
+            raise SessionEnded("a session can be used only in the process that opened it")
+        if self.closing or self.end:
+            raise (self.end or End()).of_call()
+
+    def close(self, wait: bool = True, kill: bool = False) -> None:
+        """Ends the session and its process at once. Requests that are not answered end with SessionEnded. A process that is idle ends by
+        itself, unless `kill` is set."""
         if self._pid != os.getpid():
             return
         self.closing = True
         self._requests.put(None)
-        if self._busy and self.is_alive() and self._process:
+        if (self._busy or kill) and self.is_alive() and self._process:
             _kill(self._process)
         latest = time.monotonic() + PATIENCE + 2
         while wait and self._opening.sent and not self.end and time.monotonic() < latest:
@@ -325,20 +391,37 @@ class Channel:
                 self._busy = True
                 if self.closing:
                     return
-                self._answer(request, pipes)
+                self._answer_once(request, pipes)
                 self._busy = False
             request.close()
             request = self._requests.get()
 
+    def _answer_once(self, request: Request, pipes: Pipes) -> None:
+        """Answers a request. A fill with the key of an earlier one gets its answer, and is not sent."""
+        key = request.key
+        first = self._first.get(key.name) if key else None
+        if not first:
+            self._answer(request, pipes)
+            if key and request.refused.get(0) != NO_MEMORY:
+                self._first[key.name] = First(key.fill, request.answers, request.refused, request.set, request.money)
+                self._keys.append(key.name)
+                if len(self._keys) > KEYS:
+                    del self._first[self._keys.popleft()]
+        elif key and first.fill == key.fill:
+            _, request.answers, request.refused, request.set, request.money = first
+        else:
+            request.differs = True
+
     def _answer(self, request: Request, pipes: Pipes) -> None:
         """Sends a request, and reads, checks and adds its answers. Raises Mismatch if something else was printed."""
-        first, begin = self._number, 1
+        first, begin, set_id = self._number, 1, self.used.set.encode("utf-8", "replace")
         self._number += len(request.lines)
-        printed = pipes.exchange("".join(request.lines).encode("utf-8", "surrogatepass"), first, self._number - 1)
+        most = max(it.most for it in request.expected)
+        printed = pipes.exchange("".join(request.lines).encode("utf-8", "surrogatepass"), first, self._number - 1, most)
         for at, expected in enumerate(request.expected):
             done = b"done,%d\n" % (first + at)
             end = printed.find(done, begin)
-            if end >= begin and expected.fits(printed, begin, end):
+            if end >= begin and expected.fits(printed, begin, end, set_id):
                 request.answers.append(b"" if request.drops else printed[begin:end])
                 begin = end + len(done)
             else:
@@ -346,9 +429,10 @@ class Channel:
         if begin != len(printed):
             raise Mismatch(f"the session printed more than its answers: {text_of(printed[begin : begin + 100])!r}")
         if request.used and not request.refused:
-            self.set = text_of(request.answers[0]).split(",")[1]
-            self.money, self.content = request.used(self.set)
-        request.set, request.money = self.set, self.money
+            self.used = request.used._replace(set=text_of(request.answers[0]).split(",")[1])
+        request.set, request.money = self.used.set, self.used.money
+        if request.keeps_content:
+            request.content = self.used.content
 
     def _refusal(self, request: Request, at: int, printed: bytes, begin: int) -> int:
         """Adds a rejection, which begins here. Returns its end."""
@@ -382,14 +466,25 @@ class Channel:
 
 
 def _stop(process: "subprocess.Popen[bytes]") -> int:
-    """Closes both pipes and waits for the process to end. Kills it if it does not end in time. Returns its status."""
+    """Closes both pipes and waits for the process to end. Kills it if it is stopped, or does not end in time. Returns its status."""
     for file in (process.stdin, process.stdout):
         cast(IO[bytes], file).close()
+    latest = time.monotonic() + PATIENCE
+    while time.monotonic() < latest and not _is_stopped(process):
+        try:
+            return process.wait(SLICE)
+        except subprocess.TimeoutExpired:
+            pass
+    _kill(process)
+    return process.wait()
+
+
+def _is_stopped(process: "subprocess.Popen[bytes]") -> bool:
+    """Whether a signal has stopped a process, so that it does not see the end of its input."""
     try:
-        return process.wait(PATIENCE)
-    except subprocess.TimeoutExpired:
-        _kill(process)
-        return process.wait()
+        return os.waitid(os.P_PID, process.pid, os.WSTOPPED | os.WNOHANG | os.WNOWAIT) is not None
+    except ChildProcessError:
+        return False
 
 
 def _kill(process: "subprocess.Popen[bytes]") -> None:

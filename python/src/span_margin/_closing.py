@@ -5,13 +5,12 @@ from decimal import Decimal
 from itertools import combinations, islice
 from math import comb, prod
 from operator import index, mul
-from typing import TYPE_CHECKING, Dict, Iterable, Iterator, List, Mapping, NamedTuple, Optional, Sequence, Tuple, Union
+from typing import TYPE_CHECKING, Callable, Dict, Iterable, Iterator, List, Mapping, NamedTuple, Optional, Sequence, Tuple, Union
 
 from span_margin import _questions
 from span_margin._amounts import Amount
-from span_margin._attribution import MOST_LEGS, need_measure
-from span_margin._errors import PositionsChangedError
-from span_margin._lines import FORMS, Held, Line, fields_of
+from span_margin._attribution import MOST_LEGS, amount_of
+from span_margin._lines import FORMS, Held, Line, fields_of, unreadable
 from span_margin._program import Deadline
 from span_margin._results import AccountExplanation, TriedOrder
 from span_margin._answers import Answer, Make, Table, cells_of, names_of
@@ -27,6 +26,7 @@ AFTER = {of: FORMS["ORDER"].columns.index(name) for of, name in (("total", "afte
 
 Price = Union[int, Decimal]
 Lots = Tuple[int, ...]  # how many lots of each contract an order closes
+Chosen = Tuple[Optional[Mapping[str, Price]], Optional[Iterable[str]], Optional[Mapping[str, int]]]  # cost, only, most
 Cost = Tuple[int, int]  # what lots cost, in the smallest decimal of all prices, and their number
 
 
@@ -60,6 +60,7 @@ class CheapestClose(Answer):
     tries        how many orders were evaluated
     legs         the legs of the order; none if the target is met already
     order        what the program printed for the order; None if there are no legs
+    positions    the positions that the order is for: the quantity of each contract of the account
     """
 
     account: str
@@ -75,6 +76,7 @@ class CheapestClose(Answer):
     tries: int
     legs: Tuple[ClosingLeg, ...]
     order: Optional[TriedOrder]
+    positions: Mapping[str, int]
 
     def _tables(self) -> Dict[str, Make]:
         """A row for each leg; and one row for the order."""
@@ -86,7 +88,7 @@ class CheapestClose(Answer):
         return Table(["account", "set", *names], [str] * 4 + [int, int, Decimal, Decimal], list(rows))
 
     def _order_table(self) -> Table:
-        names = names_of(CheapestClose)[:-2]
+        names = names_of(CheapestClose)[:-3]
         return Table(names, [str, str, str, Amount, bool, bool, Amount, Amount, int, Decimal, int], [cells_of(self, names)])
 
 
@@ -143,7 +145,7 @@ def problem_of(
     chosen = list(everything) if only is None else list(only)
     for contract in (*chosen, *limits):
         if contract not in everything:
-            raise ValueError(f"{whole.account} does not hold {contract}")
+            raise ValueError(f"{whole.account} does not hold {contract!r}")
         if limits.get(contract, 0) < 0:
             raise ValueError(f"most of {contract} is {limits[contract]}, and must not be negative")
     held = [it for contract, it in everything.items() if contract in chosen]
@@ -181,14 +183,11 @@ class Search:
     ) -> None:
         self._desk, self._account, self._of, self._deadline = desk, whole.account, of, deadline
         self.problem, self.target = problem, target
-        before = whole.total if of == "total" else whole.due
-        if before is None:
-            raise ValueError(f"the parameter set {whole.set} has no option values, so there is no due")
         self._tries, self._ends = limits[0], time.monotonic() + limits[1]
         self._looks = 0  # at lots that were not all evaluated
         self.focus: Sequence[int] = ()
         self.nothing: Lots = (0,) * len(problem.most)
-        self.after: Dict[Lots, int] = {self.nothing: int(before)}
+        self.after: Dict[Lots, int] = {self.nothing: int(amount_of(whole, of))}
 
     def evaluate(self, all_lots: Iterable[Lots]) -> List[Lots]:
         """Evaluates lots that were not evaluated. Returns all of them."""
@@ -200,7 +199,7 @@ class Search:
             for lots, line in zip(part, (line for line in tried.text.split("\n") if line.startswith("ORDER,"))):
                 after = fields_of(line)[1][AFTER[self._of]]
                 if after is None:
-                    raise PositionsChangedError(self._account)  # the set in use has no option values any more
+                    raise unreadable(line)
                 self.after[lots] = int(after)
         return asked
 
@@ -240,7 +239,7 @@ class Search:
         cost, count = problem.cost(lots)
         return CheapestClose(
             whole.account, whole.set, self._of, amount(self.target), after <= self.target, is_optimal, amount(before), amount(after), count,
-            problem.price(cost), len(self.after) - 1, legs, order,
+            problem.price(cost), len(self.after) - 1, legs, order, {held.contract: held.quantity for it in whole for held in it.held},
         )
 
     def left(self) -> int:
@@ -412,20 +411,19 @@ def sizes(most: int) -> List[int]:
 # --- The answer ---
 
 
-def cheapest_close(
-    desk: "Desk", account: str, target: int, of: str,
-    chosen: Tuple[Optional[Mapping[str, Price]], Optional[Iterable[str]], Optional[Mapping[str, int]]], limits: Tuple[int, float],
-    deadline: Deadline,
-) -> CheapestClose:
-    """The answer of `Session.cheapest_close`."""
-    need_measure(of)
-    whole = desk._wait_for(_questions.explanation(account), deadline)
-    search = Search(desk, whole, of, index(target), problem_of(whole, *chosen), limits, deadline)
-    is_optimal, lots = search.decided()
-    order = None
-    if any(lots):
-        order = desk._wait_for(_questions.tried(account, search.problem.legs(lots), _questions.NAME), deadline)
-        after = order.after if of == "total" else order.due_after
-        if (order.before, order.set, after) != (whole.total, whole.set, search.after[lots]):
-            raise PositionsChangedError(account)
-    return search.answer(whole, lots, is_optimal, order)
+def asked(
+    whole: AccountExplanation, target: int, of: str, chosen: Chosen, limits: Tuple[int, float]
+) -> "Callable[[Desk, Deadline], CheapestClose]":
+    """What asks a copy of the session for the cheapest order, as `Session.cheapest_close` says."""
+    amount_of(whole, of)
+    goal, problem = index(target), problem_of(whole, *chosen)
+
+    def answer(copy: "Desk", deadline: Deadline) -> CheapestClose:
+        search = Search(copy, whole, of, goal, problem, limits, deadline)
+        is_optimal, lots = search.decided()
+        order = None
+        if any(lots):
+            order = copy._wait_for(_questions.tried(whole.account, problem.legs(lots), _questions.NAME), deadline)
+        return search.answer(whole, lots, is_optimal, order)
+
+    return answer

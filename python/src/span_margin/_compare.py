@@ -1,10 +1,11 @@
 """What differs between two explanations: accounts, commodities, their figures, positions and rates."""
 from dataclasses import dataclass
 from decimal import Context, Decimal, localcontext
-from functools import cached_property
 from typing import Any, Callable, Dict, Iterable, Iterator, List, Mapping, Optional, Sequence, Tuple, Union
 
 from span_margin._amounts import Amount
+from span_margin._cached import cached
+from span_margin._errors import CurrencyError
 from span_margin._frames import Kinds
 from span_margin._lines import CommodityMargin, Held, Inter, Line
 from span_margin._results import AccountExplanation, CommodityExplanation, Explanation
@@ -124,11 +125,11 @@ class CommodityChange(Line):
     def _both(self) -> Tuple[Optional[CommodityExplanation], Optional[CommodityExplanation]]:
         return self.before, self.after
 
-    @cached_property
+    @cached
     def requirement(self) -> Moved:
         return moved("requirement", *(it and it.margin.requirement for it in self._both()))
 
-    @cached_property
+    @cached
     def steps(self) -> Steps:
         before, after = (parts_of(it.margin if it else None) for it in self._both())
         return Steps(*(new - old for old, new in zip(before, after)))
@@ -138,7 +139,7 @@ class CommodityChange(Line):
         """Whether all lines are the same, apart from the id of the set."""
         return bool(without_set(self.before) == without_set(self.after))
 
-    @cached_property
+    @cached
     def sums(self) -> Tuple[Moved, ...]:
         before, after = (it.sums.sums if it else (None,) * 16 for it in self._both())
         return tuple(moved(str(number), *both) for number, both in enumerate(zip(before, after), 1))
@@ -153,7 +154,7 @@ class CommodityChange(Line):
             return "changed"
         return "positions" if self.before.set == self.after.set else "unknown"
 
-    @cached_property
+    @cached
     def rates(self) -> Tuple[Moved, ...]:
         if self.before is None or self.after is None:
             return ()
@@ -162,12 +163,12 @@ class CommodityChange(Line):
         after.update(deltas_of(self.after, self.before))
         return differing({name: before[name] for name in before if name in after}, {name: after[name] for name in after if name in before})
 
-    @cached_property
+    @cached
     def figures(self) -> Tuple[Moved, ...]:
         before, after = (figures_of(it, self.spreads) if it else {} for it in self._both())
         return differing(before, after)
 
-    @cached_property
+    @cached
     def positions(self) -> Tuple[PositionChange, ...]:
         before, after = self._held()
         found = (position_change(before.get(contract), after.get(contract)) for contract in {**before, **after})
@@ -192,7 +193,7 @@ class CommodityChange(Line):
 def without_set(value: Any) -> Any:
     """An object of lines as data, without the id of the set."""
     if isinstance(value, Line):
-        return {name: without_set(it) for name, it in vars(value).items() if name != "set"}
+        return {name: without_set(getattr(value, name)) for name in value.__dataclass_fields__ if name != "set"}
     return [without_set(it) for it in value] if isinstance(value, tuple) else value
 
 
@@ -291,7 +292,7 @@ class AccountChange(Line):
     def _both(self) -> Tuple[Optional[AccountExplanation], Optional[AccountExplanation]]:
         return self.before, self.after
 
-    @cached_property
+    @cached
     def figures(self) -> Dict[str, Moved]:
         found: Dict[str, Moved] = {}
         for name in TOTALS:
@@ -305,20 +306,20 @@ class AccountChange(Line):
         """The total before and after."""
         return self.figures["total"]
 
-    @cached_property
+    @cached
     def _margins(self) -> List[Tuple[Optional[CommodityMargin], Optional[CommodityMargin]]]:
         """The R lines of each commodity."""
         before, after = (dict(it.margin.items()) if it else {} for it in self._both())
         return [(before.get(name), after.get(name)) for name in {**before, **after}]
 
-    @cached_property
+    @cached
     def steps(self) -> Steps:
         found = parts_of(None)
         for before, after in self._margins:
             found = [step + new - old for step, old, new in zip(found, parts_of(before), parts_of(after))]
         return Steps(*found)
 
-    @cached_property
+    @cached
     def is_changed(self) -> bool:
         """Whether a requirement or a figure of the T line changes."""
         if self.before is None or self.after is None:
@@ -333,7 +334,7 @@ class AccountChange(Line):
             return "only after" if self.before is None else "only before"
         return "" if self.is_changed else "no change"
 
-    @cached_property
+    @cached
     def commodities(self) -> Tuple[CommodityChange, ...]:
         before, after = (dict(it.items()) if it else {} for it in self._both())
         spreads: Dict[Spread, Tuple[str, ...]] = {}
@@ -374,7 +375,7 @@ class Comparison(Answer):
     before: Explanation
     after: Explanation
 
-    @cached_property
+    @cached
     def accounts(self) -> Tuple[AccountChange, ...]:
         before, after = dict(self.before.items()), dict(self.after.items())
         return tuple(AccountChange(name, before.get(name), after.get(name)) for name in {**before, **after})
@@ -383,11 +384,11 @@ class Comparison(Answer):
         """The change of an account. Raises KeyError if no explanation has it."""
         return self._by_name[account]
 
-    @cached_property
+    @cached
     def _by_name(self) -> Dict[str, AccountChange]:
         return {it.account: it for it in self.accounts}
 
-    @cached_property
+    @cached
     def measure(self) -> str:
         """The figure by which changes are compared: `due` if both explanations have it, and otherwise `total`."""
         return "due" if all(len(it) and it[0].due is not None for it in (self.before, self.after)) else "total"
@@ -399,23 +400,28 @@ class Comparison(Answer):
             self.accounts, key=lambda it: (-abs(it.figures[self.measure].change), -abs(it.total.change), not it.is_changed)
         )
 
-    @cached_property
+    @cached
     def total(self) -> Moved:
         """The sum of the totals of all accounts."""
         return moved("total", *(sum(account.total for account in it) for it in (self.before, self.after)))
 
-    @cached_property
+    @cached
     def due(self) -> Optional[Moved]:
         """The sum of what all accounts owe; None if an explanation has no dues."""
         if self.measure == "total":
             return None
         return moved("due", *(sum(account.due or 0 for account in it) for it in (self.before, self.after)))
 
+    @property
+    def currency(self) -> Optional[str]:
+        """The currency of the amounts. None if the currency of an explanation is unknown."""
+        return self.before.currency if self.before.currency == self.after.currency else None
+
     def to_dict(self) -> Dict[str, Any]:
         """The changes by their names."""
         return {
             "set_before": self.before.set, "set_after": self.after.set, "measure": self.measure, "total": self.total.to_dict(),
-            "due": self.due and self.due.to_dict(), "accounts": [it.to_dict() for it in self.accounts],
+            "due": self.due and self.due.to_dict(), "accounts": [it.to_dict() for it in self.accounts], "currency": self.currency,
         }
 
     def _tables(self) -> Dict[str, Make]:
@@ -466,6 +472,9 @@ def compare(
 ) -> Comparison:
     """What differs between two explanations, of all accounts or of one, such as yesterday's and today's.
 
-    Raises CurrencyError, when a change is asked for, if amounts are in two currencies.
+    Raises CurrencyError if they are in two currencies. If the currency of one is unknown, the currency of the answer is unknown, too.
     """
+    currencies = before.currency, after.currency
+    if None not in currencies and before.currency != after.currency:
+        raise CurrencyError("an explanation in {} and one in {} cannot be compared".format(*currencies))
     return Comparison(*(it if isinstance(it, Explanation) else Explanation(bytes(it), it._money) for it in (before, after)))

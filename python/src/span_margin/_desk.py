@@ -4,7 +4,8 @@ import re
 from decimal import Decimal
 from typing import Callable, Sequence, Tuple, TypeVar
 
-from span_margin import report
+from span_margin import _convert, report
+from span_margin._amounts import Money
 from span_margin._answers import Answer
 from span_margin._closing import CheapestClose
 from span_margin._compare import compare
@@ -116,15 +117,16 @@ def add_compare(parser: Arguments) -> None:
     parser.add_argument("before", metavar="BEFORE", help="a file of what span explain printed")
     parser.add_argument("after", metavar="AFTER", help="a later one")
     add_format(parser, ("accounts", "commodities", "positions", "rates", "figures", "sums"))
+    _convert.add_params(parser)
 
 
 def comparison(chosen: argparse.Namespace) -> None:
-    explanations = []
+    explanations, currencies = [], _convert.currencies_of(chosen.params)
     for name, what in ((chosen.before, report.EARLIER), (chosen.after, "explanation")):
         data = read_file(name, what)
         try:
-            report.checked(data, what)
+            found = report.checked(data, what)
         except report.Rejected as rejected:
             raise Ended(REJECTED, str(rejected)) from None
-        explanations.append(Explanation(data))
+        explanations.append(Explanation(data, Money(currencies.get(found.set_id))))
     print_answer(compare(*explanations), chosen)

@@ -9,15 +9,16 @@ from typing import Any, Dict, Optional, Tuple, Type
 _FAULT = re.compile(
     r"(?P<file>(?:next )?(?:parameters|positions|orders|request|book|workers)): (?P<code>[A-Z]\d+) (?P<name>\w+)"
     r"(?: at record (?P<record>\d+)| at field (?P<field>\d+))?"
-    r"(?: account (?P<account>[^ ]+))?(?: order (?P<order>[^ ]+))?(?: contract (?P<contract>[^ ]+))?"
+    r"(?: account (?P<account>[!-~]+))?(?: order (?P<order>[!-~]+))?(?: contract (?P<contract>[!-~]+))?"
 )
 _FIRST_PAIR = {"TRY": 3, "FILL": 2}
 LONGEST_FILE = 67108864  # bytes of a file that the program reads
+NO_FILE = 6  # the status of the program if a file cannot be read
 _OF_SYSTEM = ("errno", "strerror", "filename")  # what an OSError has outside of its `__dict__`
 
 
 class SpanError(Exception):
-    """What the program rejected, or why it could not be run.
+    """What the program rejected, or why it could not be run. In the text of an error, characters that cannot be shown are escapes.
 
     line      what the program printed, without the line end
     status    its exit status; None if a session rejected one request and goes on
@@ -48,6 +49,10 @@ class SpanError(Exception):
             self.account, self.order, self.contract = fault["account"], fault["order"], fault["contract"]
 
     def __str__(self) -> str:
+        return visible(self._text())
+
+    def _text(self) -> str:
+        """What the text of the error is made of."""
         return self.line
 
     def __reduce__(self) -> Tuple[Any, ...]:
@@ -74,7 +79,7 @@ class UsageError(SpanError):
     `line` is all that the program printed. The text of the error is its first line.
     """
 
-    def __str__(self) -> str:
+    def _text(self) -> str:
         return self.line.partition("\n")[0]
 
 
@@ -104,7 +109,7 @@ class FileError(SpanError, OSError):
         self.errno, self.strerror = why_not_readable(self.filename)  # type: ignore[assignment]
         self.reason: Optional[str] = self.strerror
 
-    def __str__(self) -> str:
+    def _text(self) -> str:
         return f"{self.line}: {self.reason}" if self.reason else self.line
 
 
@@ -129,7 +134,7 @@ class RequestError(SpanError):
         if first <= at < len(fields):
             self.contract = fields[at - (at - first) % 2]
 
-    def __str__(self) -> str:
+    def _text(self) -> str:
         fields = self.request.split(",")
         return f"{self.line}: {fields[self.field - 1]}" if self.field and self.field <= len(fields) else self.line
 
@@ -138,7 +143,7 @@ class SessionEnded(SpanError, ConnectionError):
     """The session has ended, or was closed; then `status` is None. `line` is what it printed on standard error, which may be nothing. It
     is a ConnectionError."""
 
-    def __str__(self) -> str:
+    def _text(self) -> str:
         if self.status is None:
             return "the session is closed"
         return f"the session ended {how(self.status)}" + (f": {self.line}" if self.line else "")
@@ -170,7 +175,7 @@ class TimedOut(SpanError, TimeoutError):
 
 
 class FileChangedError(SpanError):
-    """The parameter file was replaced while the program ran, so the currency of the result is not known.
+    """The parameter file was replaced while the program ran, so the currency of the result is not known. Sessions do not raise it.
 
     filename   the name of the file
     """
@@ -179,18 +184,6 @@ class FileChangedError(SpanError):
         super().__init__(f"{filename} was replaced while span read it")
         self.args = (filename,)
         self.filename = filename
-
-
-class PositionsChangedError(SpanError):
-    """The positions of an account, or the parameter set, changed during a call that asks several questions. Call again.
-
-    account   the account
-    """
-
-    def __init__(self, account: str) -> None:
-        super().__init__(f"the positions of {account} or the parameter set changed during the call")
-        self.args = (account,)
-        self.account = account
 
 
 class CurrencyError(SpanError, TypeError):
@@ -202,7 +195,7 @@ _OF_STATUS: Dict[int, Type[SpanError]] = {
     3: ParametersError,
     4: PositionsError,
     5: OutOfMemoryError,
-    6: FileError,
+    NO_FILE: FileError,
     7: RollError,
 }
 _OF_FRONT: Dict[str, Type[SpanError]] = {
@@ -216,6 +209,11 @@ _OF_FRONT: Dict[str, Type[SpanError]] = {
 def match_fault(line: str) -> Optional["re.Match[str]"]:
     """The parts of a fault line, or None if the line is not one."""
     return _FAULT.fullmatch(line)
+
+
+def visible(text: str) -> str:
+    """A text with escapes such as \\x1b for the characters that cannot be shown, so that a name in it controls no terminal and no log."""
+    return text if text.isprintable() else "".join(it if it.isprintable() else ascii(it)[1:-1] for it in text)
 
 
 def number_of(digits: Optional[str]) -> Optional[int]:

@@ -1,10 +1,23 @@
-"""Lines as pandas data frames. Whole numbers stay exact, names stay text, and numbers with fractions are Decimal objects."""
+"""Rows as CSV, and rows and lines as pandas data frames.
+
+In a data frame whole numbers stay exact, names stay text, and numbers with fractions are Decimal objects.
+"""
 import csv
 import io
+from decimal import Decimal
 from importlib import import_module
 from typing import Any, Iterable, List, Sequence, Type
 
 Kinds = Sequence[Type[Any]]  # the class of each column: str, or a kind of int or Decimal
+
+
+def csv_of_rows(columns: Sequence[str], rows: Iterable[Sequence[Any]]) -> str:
+    """Rows as CSV with a header. A missing value is an empty field, and a number has no exponent."""
+    text = io.StringIO()
+    writer = csv.writer(text, lineterminator="\n")
+    writer.writerow(columns)
+    writer.writerows([format(it, "f") if isinstance(it, Decimal) else it for it in row] for row in rows)
+    return text.getvalue()
 
 
 def frame_of_rows(columns: Sequence[str], kinds: Kinds, rows: Iterable[Sequence[Any]]) -> Any:
@@ -24,6 +37,11 @@ def _column(pandas: Any, kind: Type[Any], cells: Sequence[Any]) -> Any:
         except (OverflowError, TypeError):
             pass
     return pandas.Series(list(cells), dtype=object)
+
+
+def text_column(cells: Sequence[Any]) -> Any:
+    """A column of texts. Some may be missing."""
+    return _column(import_module("pandas"), str, cells)
 
 
 def frame_of_lines(columns: Sequence[str], kinds: Kinds, lines: Sequence[bytes], has_word: bool) -> Any:

@@ -3,15 +3,17 @@ import csv
 import os
 import re
 import secrets
+import select
 import shutil
 import stat
 import tempfile
+from numbers import Rational, Real
 from types import TracebackType
-from typing import Any, Iterable, Iterator, List, Mapping, Optional, Sequence, Sized, SupportsBytes, Tuple, Type, Union
+from typing import Any, Callable, Iterable, Iterator, List, Mapping, Optional, Sequence, Sized, SupportsBytes, Tuple, Type, Union
 
 from span_margin._amounts import Money
-from span_margin._errors import LONGEST_FILE, FileChangedError, FileError
-from span_margin._program import Deadline
+from span_margin._errors import LONGEST_FILE, NO_FILE, FileChangedError, FileError, SpanError
+from span_margin._program import SLICE, Deadline
 
 Row = Union[Sequence[object], Mapping[str, object]]
 # What calls accept as a file: its path, its content, or its rows as tuples, dicts or a data frame.
@@ -21,7 +23,8 @@ POSITION = ("account", "contract", "quantity")
 ORDER = ("order", "account", "contract", "quantity")
 PARAMETER: Tuple[str, ...] = ()  # records of parameters have no columns in common
 _CONTENT = re.compile(r'[^\r\n]*[\r\n]|"?[A-Z0-9_-]+"?(,"?[A-Z0-9_.-]*"?){2,}\Z')
-_PREFIX = 65536  # so many bytes of a parameter file are read here: the SET record is the first
+_PREFIX = 65536  # so many bytes of a parameter file are looked at here: the SET record is the first
+_PART = 1 << 20  # so many bytes of a file are read at once
 _SET = re.compile(r"SET,([A-Z0-9_-]{1,16}),[0-9]{1,18},([A-Z]{3})")
 _QUOTED = re.compile('[",\r\n]')
 _OWN_STREAMS = ("/dev/stdin", "/dev/fd/", "/proc/self/fd/")
@@ -34,8 +37,11 @@ class Inputs:
     _count = 0
     _pid = 0
 
-    def __init__(self, deadline: Deadline = Deadline()) -> None:
-        self.deadline = deadline
+    def __init__(
+        self, deadline: Deadline = Deadline(), status: Optional[int] = NO_FILE, check: Callable[[], None] = lambda: None
+    ) -> None:
+        """`status` is the one of an error about a file. `check` raises an error if the files are not wanted any more."""
+        self.deadline, self._status, self._check = deadline, status, check
         self._pid = os.getpid()
 
     def __enter__(self) -> "Inputs":
@@ -58,7 +64,7 @@ class Inputs:
         """The path of a new file in the private directory, which only this user can read."""
         if self._directory is None:
             # (named before it is made, so that it is removed even if a signal handler raises between the two)
-            self._directory = os.path.join(tempfile.gettempdir(), f"span-{secrets.token_hex(8)}")
+            self._directory = os.path.abspath(os.path.join(tempfile.gettempdir(), f"span-{secrets.token_hex(8)}"))
             os.mkdir(self._directory, 0o700)
         self._count += 1
         return os.path.join(self._directory, f"{self._count}-{name}")
@@ -68,18 +74,26 @@ class Inputs:
 
         Raises ValueError for content that is given as a str.
         """
-        if isinstance(source, (str, os.PathLike)):
-            path = os.fspath(source)
-            if isinstance(source, str) and _is_content(source):
-                raise ValueError(f"a str is the path of a file, and {source[:40]!r} is content: pass bytes, as text.encode(), or a path")
-            return path if _can_be_named(path) else self.copy(path, name)
-        if isinstance(source, (bytes, bytearray, memoryview, SupportsBytes)):
-            return self.write(bytes(source), name)
-        return self.write(csv_of(source, columns), name)
+        given = path_or_content(source, columns)
+        if isinstance(given, str) and _can_be_named(given):
+            return given
+        return self.write(self.content(given, columns), name)
 
-    def copy(self, path: str, name: str) -> str:
-        """The path of a new file with the content of a file. Raises FileError if it cannot be read."""
-        return self.write(self.deadline.call(_read, path), name)
+    def content(self, source: Source, columns: Sequence[str]) -> bytes:
+        """The content of a source. A file is read up to its end, so that a pipe waits for a writer.
+
+        Raises FileError if the file cannot be read, or is longer than the program accepts.
+        """
+        given = path_or_content(source, columns)
+        if isinstance(given, bytes):
+            return given
+        wanted = [given]
+
+        def is_wanted() -> bool:
+            self._check()
+            return bool(wanted) and self.deadline.left() != 0
+
+        return self.deadline.call(lambda path: _read(path, is_wanted, self._status), given, self._check, wanted.clear)
 
     def write(self, content: bytes, name: str) -> str:
         """The path of a new file with this content."""
@@ -87,6 +101,17 @@ class Inputs:
         with open(path, "wb") as file:
             file.write(content)
         return path
+
+
+def path_or_content(source: Source, columns: Sequence[str]) -> Union[str, bytes]:
+    """The path of a file, or its content if a source is not a path. Raises ValueError for content that is given as a str."""
+    if isinstance(source, (str, os.PathLike)):
+        if isinstance(source, str) and _is_content(source):
+            raise ValueError(f"a str is the path of a file, and {source[:40]!r} is content: pass bytes, as text.encode(), or a path")
+        return os.fspath(source)
+    if isinstance(source, (bytes, bytearray, memoryview, SupportsBytes)):
+        return bytes(source)
+    return csv_of(source, columns)
 
 
 def _is_content(text: str) -> bool:
@@ -103,17 +128,49 @@ def _can_be_named(path: str) -> bool:
     return not path.startswith(_OWN_STREAMS)
 
 
-def _read(path: str) -> bytes:
-    """The content of a file, read here."""
+def _read(path: str, is_wanted: Callable[[], bool], status: Optional[int]) -> bytes:
+    """The content of a file, as long as it is wanted. Raises FileError if it cannot be read, or is too long."""
     try:
-        with open(path, "rb") as file:
-            return file.read()
-    except OSError as error:
-        raise FileError(f"file: {path}") from error
+        descriptor = os.open(path, os.O_RDONLY | os.O_NONBLOCK | os.O_CLOEXEC)
+        try:
+            content = b"".join(_parts(descriptor, is_wanted))
+        finally:
+            os.close(descriptor)
+    except SpanError:
+        raise
+    except (OSError, ValueError) as error:
+        raise FileError(f"file: {path}", status) from error
+    if len(content) > LONGEST_FILE:
+        raise FileError(f"file: {path}", status)
+    return content
+
+
+def _parts(descriptor: int, is_wanted: Callable[[], bool]) -> Iterator[bytes]:
+    """What can be read, up to the end of the file or one byte more than the program accepts.
+
+    It waits neither for the writer of a pipe nor in `read`: a reader that was left behind there would take what a later writer writes for
+    a later reader.
+    """
+    ready, rest = select.poll(), LONGEST_FILE + 1
+    ready.register(descriptor, select.POLLIN)
+    while rest:
+        # (A pipe is not ready before a writer has opened it. When all writers have closed it, it is ready, and at its end.)
+        is_ready = ready.poll(SLICE * 1000)
+        if not is_wanted():
+            break
+        try:
+            part = os.read(descriptor, min(rest, _PART)) if is_ready else None
+        except BlockingIOError:  # another reader was faster
+            continue
+        if part == b"":
+            break
+        if part:
+            rest -= len(part)
+            yield part
 
 
 def set_record(path: str) -> Optional[Tuple[str, str]]:
-    """The id and the currency of the first record of a regular file, or None. It never waits for a pipe, and opens none."""
+    """The id and the currency of the SET record of a regular file, or None. It never waits for a pipe, and opens none."""
     try:
         if not stat.S_ISREG(os.stat(path).st_mode):
             return None
@@ -121,6 +178,12 @@ def set_record(path: str) -> Optional[Tuple[str, str]]:
             prefix = file.read(_PREFIX) if stat.S_ISREG(os.fstat(file.fileno()).st_mode) else b""
     except (OSError, ValueError):
         return None
+    return set_record_in(prefix)
+
+
+def set_record_in(content: bytes) -> Optional[Tuple[str, str]]:
+    """The id and the currency of the first record of a parameter file with this content, or with this beginning; or None."""
+    prefix = content[:_PREFIX]
     begin = prefix[3:] if prefix.startswith(b"\xef\xbb\xbf") else prefix
     line, end, _ = begin.lstrip(b"\r\n").replace(b"\r", b"\n").partition(b"\n")
     if not end and len(prefix) == _PREFIX:
@@ -133,34 +196,12 @@ def set_record(path: str) -> Optional[Tuple[str, str]]:
     return (found[1], found[2]) if found and len(fields) == 4 else None
 
 
-def _version(about: os.stat_result) -> Tuple[int, ...]:
-    """What differs between a file and a file that replaces it, or that was written later."""
-    return about.st_dev, about.st_ino, about.st_size, about.st_mtime_ns
-
-
-def content_of(path: str) -> Optional[Tuple[bytes, Tuple[int, ...]]]:
-    """The content and the version of a regular file that the program accepts by its size, or None. It opens no pipe."""
-    try:
-        if not stat.S_ISREG(os.stat(path).st_mode):
-            return None
-        with open(os.open(path, os.O_RDONLY | os.O_NONBLOCK | os.O_CLOEXEC), "rb") as file:
-            about = os.fstat(file.fileno())
-            is_read = stat.S_ISREG(about.st_mode) and about.st_size <= LONGEST_FILE
-            return (file.read(LONGEST_FILE), _version(about)) if is_read else None
-    except (OSError, ValueError):
-        return None
-
-
 class SetFile:
-    """A parameter file, and the id and the currency of its SET record before the program read it; None if it is not a regular file.
+    """A parameter file, and the id and the currency of its SET record before the program read it; None if it is not a regular file."""
 
-    With `keep`, it has the content of the file, too.
-    """
-
-    def __init__(self, path: str, digits: Optional[int], deadline: Deadline, keep: bool = False) -> None:
+    def __init__(self, path: str, digits: Optional[int], deadline: Deadline) -> None:
         self.path, self._digits, self._deadline = path, digits, deadline
         self._before = deadline.call(set_record, path)
-        self._content = deadline.call(content_of, path) if keep else None
 
     @property
     def set_id(self) -> Optional[str]:
@@ -178,13 +219,6 @@ class SetFile:
         now = set_record(self.path) or self._before
         return now == self._before and set_id in (None, now[0])
 
-    def content(self) -> Optional[bytes]:
-        """The content that the program read, if it was kept: the file was regular, and is still the same."""
-        try:
-            return self._content[0] if self._content and _version(os.stat(self.path)) == self._content[1] else None
-        except OSError:
-            return None
-
     def check(self, set_id: Optional[str]) -> None:
         """Raises FileChangedError if the file does not have this set any more, or did not have it before."""
         if not self._deadline.call(lambda _: self.has_still(set_id), self.path):
@@ -195,7 +229,7 @@ def replace(path: Union[str, "os.PathLike[str]"], content: bytes) -> None:
     """Writes a file under another name in the same directory, and then renames it."""
     target = os.path.realpath(path)
     if os.path.lexists(target) and not os.path.isfile(target):
-        raise ValueError(f"{os.fspath(path)} exists, and is not a file")
+        raise ValueError(f"{os.fspath(path)!r} exists, and is not a file")
     draft = os.path.join(os.path.dirname(target), f".span-{secrets.token_hex(8)}")
     try:
         with open(draft, "xb") as file:
@@ -221,6 +255,7 @@ def csv_of(rows: Any, columns: Sequence[str]) -> bytes:
     for number, row in enumerate(_fields(rows, columns), 1):
         if not row and columns is ORDER:
             raise ValueError(f"order row {number} is empty")
+        _need_no_float(number, columns, row)
         # (a record with one empty field is not an empty line)
         lines.append(",".join(map(_field, row)) or '""')
     return "".join(f"{line}\r\n" for line in lines).encode("utf-8", "surrogatepass")
@@ -246,6 +281,15 @@ def _fields(rows: Any, columns: Sequence[str]) -> Iterator[Sequence[object]]:
             raise TypeError(f"a row is a sequence of fields or a dict, not {row!r}")
         else:
             yield list(row)
+
+
+def _need_no_float(number: int, columns: Sequence[str], row: Iterable[object]) -> None:
+    """Raises TypeError if a field of a row is a float, of Python or of numpy. Its text would have a point, which no field may have."""
+    for column, value in zip(columns, row):
+        if not isinstance(value, (str, int)) and isinstance(value, Real) and not isinstance(value, Rational):
+            raise TypeError(
+                f"row {number}: {column} is a float, {value}; give text or a whole number (a column of a data frame has floats if a value "
+                'is missing: read it with dtype=str or dtype="Int64")')
 
 
 def _need(columns: Sequence[str], there: Iterable[str]) -> None:

@@ -10,20 +10,30 @@ import re
 from dataclasses import dataclass
 from decimal import Decimal
 from functools import lru_cache
-from typing import Any, ClassVar, Dict, List, Mapping, NamedTuple, Optional, Pattern, Tuple, Type, Union, get_type_hints
+from typing import Any, ClassVar, Dict, Iterable, List, Mapping, NamedTuple, Optional, Pattern, Sequence, Tuple, Type, Union, get_type_hints
 
-from span_margin._amounts import UNKNOWN, Amount, ExactAmount, Money
+from span_margin._amounts import UNKNOWN, Amount, ExactAmount, Money, currency_of
 from span_margin._errors import ProgramError, match_fault
-from span_margin._frames import frame_of_lines, frame_of_rows
+from span_margin._frames import Kinds, csv_of_rows, frame_of_lines, frame_of_rows, text_column
 from span_margin._inputs import replace
 from span_margin._program import text_of
 
 
-class Printed:
+class Shown:
+    """A result that notebooks show as HTML."""
+
+    def _repr_html_(self) -> str:
+        from span_margin.report._notebook import html_of  # (which takes long, and only notebooks need)
+
+        return html_of(self)
+
+
+class Printed(Shown):
     """What the program printed, without a change: `bytes(result)`."""
 
-    _kinds: ClassVar[Mapping[str, str]]  # the kinds of data frames, the default first, and the words of their lines
+    _kinds: ClassVar[Mapping[str, str]]  # the kinds of tables, the default first, and the words of their lines
     _money: Money = UNKNOWN
+    currency: Any = None  # of the amounts, such as "USD"; None if it is unknown
 
     def __bytes__(self) -> bytes:
         raise NotImplementedError
@@ -55,37 +65,57 @@ class Printed:
 
         Raises ValueError if there is no such kind, and ImportError if pandas is not installed.
         """
+        return self._frame(self._word(of))
+
+    def to_csv(self, of: Optional[str] = None) -> str:
+        """A table of the same rows and columns as CSV with a header. A missing value is an empty field.
+
+        Raises ValueError if there is no such kind.
+        """
+        columns, _, rows = self._table(self._word(of))
+        return csv_of_rows(columns, rows)
+
+    def _word(self, of: Optional[str]) -> str:
+        """The word of the lines of a kind."""
         kind = next(iter(self._kinds)) if of is None else of
         if kind not in self._kinds:
-            raise ValueError(f"unknown kind {kind}; the kinds are {', '.join(self._kinds)}")
-        return self._frame(self._kinds[kind])
+            raise ValueError(f"unknown kind {kind!r}; the kinds are {', '.join(self._kinds)}")
+        return self._kinds[kind]
+
+    def _table(self, word: str) -> Tuple[Sequence[str], Kinds, Iterable[Sequence[Any]]]:
+        """The columns of the lines of one word, their classes and the rows. None is a missing value."""
+        form, kinds = FORMS[word], [kind for _, kind in _classes(word, self._money)]
+        added: List[Any] = [self.currency] if form.has_amounts else []
+
+        def row(line: bytes) -> List[Any]:
+            values = values_of(text_of(line), self._money, None if word else "")[1]
+            return [*values, *[None] * (len(kinds) - len(values)), *added]
+
+        return (*form.columns, *["currency"] * len(added)), (*kinds, *[str] * len(added)), map(row, self._lines_of(word))
 
     def _frame(self, word: str) -> Any:
         """A data frame of the lines of one word."""
-        form, lines = FORMS[word], self._lines_of(word)
+        lines = self._lines_of(word)
         wrong = next((line for line in lines if not _line_form(word).fullmatch(line)), None)
         if wrong is not None:
             raise unreadable(text_of(wrong))
-        kinds = [kind for _, kind in _classes(word, self._money)]
         try:
-            return frame_of_lines(form.columns, kinds, lines, bool(word))
+            return self._read_frame(word, lines)
         except (ValueError, ArithmeticError):  # what only Python reads exactly
-            rows = (values_of(text_of(line), self._money, None if word else "")[1] for line in lines)
-            return frame_of_rows(form.columns, kinds, rows)
+            return frame_of_rows(*self._table(word))
+
+    def _read_frame(self, word: str, lines: Sequence[bytes]) -> Any:
+        """The same, read by pandas, which is fast. Raises ValueError or ArithmeticError if pandas cannot read the lines exactly."""
+        form = FORMS[word]
+        frame = frame_of_lines(form.columns, [kind for _, kind in _classes(word, self._money)], lines, bool(word))
+        if form.has_amounts:
+            frame["currency"] = text_column([self.currency] * len(lines))
+        return frame
 
     def _lines_of(self, word: str) -> List[bytes]:
         """The lines of one word, without their ends."""
         front = f"{word},".encode() if word else b""
         return [line for line in bytes(self).split(b"\n")[:-1] if line.startswith(front)]
-
-
-class Shown:
-    """A result that notebooks show as HTML."""
-
-    def _repr_html_(self) -> str:
-        from span_margin.report._notebook import html_of  # (which takes long, and only notebooks need)
-
-        return html_of(self)
 
 
 @dataclass(frozen=True)
@@ -96,6 +126,20 @@ class Line:
         """The fields by their names. Objects in fields are dicts too, and tuples lists."""
         values = [(name, getattr(self, name)) for name in self.__dataclass_fields__]
         return {name: _plain(value) if isinstance(value, (Line, tuple)) else value for name, value in values}
+
+
+@dataclass(frozen=True)
+class Priced(Line):
+    """A line with amounts."""
+
+    @property
+    def currency(self) -> Optional[str]:
+        """The currency of the amounts, such as "USD". None if it is unknown."""
+        return currency_of(vars(self).values())
+
+    def to_dict(self) -> Dict[str, Any]:
+        """The fields by their names, and the currency. Tuples are lists."""
+        return {**super().to_dict(), "currency": self.currency}
 
 
 @dataclass(frozen=True)
@@ -118,7 +162,7 @@ def _plain(value: Any) -> Any:
 
 
 @dataclass(frozen=True)
-class CommodityMargin(Line):
+class CommodityMargin(Priced):
     """An R line: the requirement of an account in one commodity. No amount is negative.
 
     scan_risk, active_scenario                the largest loss of the sixteen scenarios, and the number of its scenario, 1 to 16
@@ -141,7 +185,7 @@ class CommodityMargin(Line):
 
 
 @dataclass(frozen=True)
-class AccountTotal(OneLine):
+class AccountTotal(Priced, OneLine):
     """A T line: the total of an account. Under a set of version 1, value, due and excess are None.
 
     total    the sum of the requirements
@@ -160,7 +204,7 @@ class AccountTotal(OneLine):
 
 
 @dataclass(frozen=True)
-class Held(Line):
+class Held(Priced):
     """A HELD line: a contract that the account holds. `type` is F, C or P; `value` is None under a set of version 1."""
 
     account: str
@@ -174,7 +218,7 @@ class Held(Line):
 
 
 @dataclass(frozen=True)
-class Sums(Line):
+class Sums(Priced):
     """A SUMS line: the losses in scenarios 1 to 16. Gains are negative."""
 
     account: str
@@ -184,7 +228,7 @@ class Sums(Line):
 
 
 @dataclass(frozen=True)
-class Scan(Line):
+class Scan(Priced):
     """A SCAN line. `paired_scenario` has the same price move and the other volatility; scenarios 15 and 16 are each their own pair. The
     credit is a part of `price_risk`."""
 
@@ -210,7 +254,7 @@ class Month(Line):
 
 
 @dataclass(frozen=True)
-class Intra(Line):
+class Intra(Priced):
     """An INTRA line: calendar spreads that formed. `long_side` is A or B, `rate` the charge for one spread."""
 
     account: str
@@ -224,7 +268,7 @@ class Intra(Line):
 
 
 @dataclass(frozen=True)
-class Spot(Line):
+class Spot(Priced):
     """A SPOT line: the deltas near delivery that spreads used and that they left, with their rates."""
 
     account: str
@@ -253,7 +297,7 @@ class Inter(Line):
 
 
 @dataclass(frozen=True)
-class Credit(Line):
+class Credit(Priced):
     """A CREDIT line. `weight` is the sum over the INTER lines of deltas used times basis points."""
 
     account: str
@@ -265,7 +309,7 @@ class Credit(Line):
 
 
 @dataclass(frozen=True)
-class Short(Line):
+class Short(Priced):
     """A SHORT line: short calls and puts in contracts, how they are counted (SUM or MAX), and the minimum for one contract."""
 
     account: str
@@ -278,7 +322,7 @@ class Short(Line):
 
 
 @dataclass(frozen=True)
-class Change(Line):
+class Change(Priced):
     """A CHANGE line: the requirement of a commodity before and after an order. `change` is after minus before."""
 
     order: str
@@ -291,7 +335,7 @@ class Change(Line):
 
 
 @dataclass(frozen=True)
-class OrderTotal(Line):
+class OrderTotal(Priced):
     """An ORDER line: the total of the account before and after an order, and the amount due under a set of version 2."""
 
     order: str
@@ -374,6 +418,11 @@ class Form(NamedTuple):
     fields: Tuple[str, ...]
     least: int
 
+    @property
+    def has_amounts(self) -> bool:
+        """Whether the lines have amounts, which are in a currency."""
+        return issubclass(self.make, Priced)
+
     def pattern(self, begin: int = 0) -> str:
         """The form of the fields from this one on."""
         more = self.fields[self.least :]
@@ -406,6 +455,10 @@ FORMS: Dict[str, Form] = {
     "OK": _form(SetCounts, _NAME, *[_COUNT] * 6),
     "": _form(Position, _NAME, _NAME, _WHOLE),  # records of positions have no word
 }
+
+
+# Lines that may have no field that is an amount. They keep the currency by themselves. (Others do not, since that takes memory.)
+_WITH_MONEY = (Held, Sums)
 
 
 @lru_cache(maxsize=None)
@@ -492,6 +545,8 @@ def object_of(line: str, money: Money = UNKNOWN, word: Optional[str] = None) -> 
         values[3:] = [tuple(values[3:])]
     made = object.__new__(form.make)  # (`__init__` is slow for frozen classes; fields that the line lacks have their defaults)
     object.__setattr__(made, "__dict__", dict(zip(form.make.__dataclass_fields__, values)))
+    if form.make in _WITH_MONEY:
+        vars(made)["_money"] = money
     return made
 
 

@@ -6,7 +6,7 @@ from typing import Any, Dict, Iterable, List, Mapping, NamedTuple, Optional, Pro
 
 from span_margin._calls import faults
 from span_margin._columns import LEGS, SET, Reading, Round, Table, leg_columns, tables_of
-from span_margin._errors import ParametersError
+from span_margin._errors import ParametersError, visible
 from span_margin._lines import Fault
 from span_margin._inputs import replace
 
@@ -57,7 +57,7 @@ class RowFault:
     def __str__(self) -> str:
         what = f"{self.code} {self.name}".strip()
         where = "" if self.field is None else f" in {self.field}: {_shown(self.value)}"
-        return f"{self.source} row {self.row}: {what}{where}"
+        return visible(f"{self.source} row {self.row}: {what}{where}")
 
 
 class ParameterSetError(ParametersError):
@@ -81,7 +81,7 @@ class _Place(NamedTuple):
     row: int
 
     def __str__(self) -> str:
-        return f"{self.source} row {self.row}"
+        return visible(f"{self.source} row {self.row}")
 
 
 class _Cell(NamedTuple):

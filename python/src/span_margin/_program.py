@@ -14,10 +14,11 @@ from span_margin._errors import ProgramError, TimedOut
 
 MAJOR = 1  # the major version of the programs that this package knows
 SESSIONS = (1, 3)  # the first version with `span session`
-_OWN = Path(__file__).resolve().parent / "bin" / "span"  # in a wheel that contains the program
+OWN = Path(__file__).resolve().parent / "bin" / "span"  # in a wheel that contains the program
 # In a clone, the program that `./dev prove` builds.
 _CLONE = Path(__file__).resolve().parents[3] / "crates" / "span" / "out" / "span"
 GRACE = 1.0  # how many seconds a process that was killed has to end
+SLICE = 0.05  # how often a thread looks again at what no queue tells it
 Answer = TypeVar("Answer")
 _versions: Dict[Tuple[str, int, int], Tuple[int, int, int]] = {}
 
@@ -44,17 +45,22 @@ class Deadline:
         return None if self._ends is None else max(self._ends - time.monotonic(), 0)
 
     def stop(self) -> None:
-        """Ends the time of a call that is not wanted any more. It is in another thread, which may wait for an answer before it notices."""
+        """Ends the time of a call in another thread, which is not wanted any more."""
         self.seconds, self._ends = 0, time.monotonic()
 
     def passed(self) -> TimedOut:
         """The error of a call that took longer."""
         return TimedOut(f"span did not end within {self.seconds:g} seconds")
 
-    def call(self, function: Callable[[str], Answer], path: str) -> Answer:
-        """What a function of a file returns. A thread of its own calls it, since a dead file system may block it for ever."""
-        if self._ends is None:
-            return function(path)
+    def call(
+        self, function: Callable[[str], Answer], path: str, check: Callable[[], None] = lambda: None,
+        stop: Optional[Callable[[], None]] = None,
+    ) -> Answer:
+        """What a function of a file returns. A thread of its own calls it, since a dead file system may block it for ever.
+
+        `check` is called from time to time while this waits. It raises an error if the answer is not wanted any more. `stop` is called if
+        the answer is not awaited, and makes the function end soon.
+        """
         answers: "queue.SimpleQueue[Tuple[Any, Optional[BaseException]]]" = queue.SimpleQueue()
 
         def work() -> None:
@@ -64,9 +70,18 @@ class Deadline:
                 answers.put((None, error))
 
         start_new_thread(work, ())
-        found = _wait(answers, self.left())
-        if found is None:
-            raise self.passed()
+        found = None
+        try:
+            while found is None:
+                rest = self.left()
+                if rest == 0:
+                    raise self.passed()
+                check()
+                found = _wait(answers, SLICE if rest is None else min(rest, SLICE))
+        finally:
+            if found is None and stop:
+                stop()
+                _wait(answers, 2 * SLICE)
         if found[1] is not None:
             raise found[1]
         return cast(Answer, found[0])
@@ -80,8 +95,8 @@ def find(named: Union[str, "os.PathLike[str]", None] = None) -> str:
     """
     where = "the argument program" if named else "SPAN in the environment"
     named = named or os.environ.get("SPAN")
-    if not named and os.access(_OWN, os.X_OK):
-        return str(_OWN)
+    if not named and os.access(OWN, os.X_OK):
+        return str(OWN)
     found = shutil.which(named or "span")
     if found:
         return os.path.abspath(found)

@@ -1,13 +1,12 @@
 """The requests of a session: the line of each, the answer that it must have, and the object that the answer becomes."""
-import os
 from operator import index
-from typing import Callable, Generic, Iterable, Iterator, List, Mapping, Optional, Sequence, Tuple, TypeVar, Union
+from typing import Callable, Generic, Iterable, Iterator, List, Mapping, NamedTuple, Optional, Sequence, Tuple, TypeVar, Union
 
 from span_margin import _results
-from span_margin._amounts import UNKNOWN, Money
-from span_margin._channel import End, Expected, Request
-from span_margin._errors import FileChangedError, RequestError, SpanError, error_of_request
-from span_margin._inputs import PARAMETER, Inputs, SetFile, Source, need_legs
+from span_margin._amounts import Money
+from span_margin._channel import OF_ALL, End, Expected, InUse, Key, OfAnyAccounts, Request
+from span_margin._errors import RequestError, SpanError, error_of_request
+from span_margin._inputs import PARAMETER, Inputs, Source, need_legs, set_record_in
 from span_margin._lines import AccountTotal, SetCounts
 from span_margin._program import Deadline
 from span_margin._results import AccountExplanation, AccountMargin, Positions, Statement, TriedOrder, TriedOrders
@@ -18,7 +17,6 @@ Legs = Mapping[str, int]
 Try = Union[Tuple[str, Legs], Tuple[str, Legs, str]]
 
 NAME = "TRY"  # the name of an order that has none
-LONGEST_REQUEST = 4096  # bytes of a request without its line end
 # The words of the lines of an explanation before its T line.
 REASONS = (b"HELD", b"SUMS", b"SCAN", b"MONTH", b"INTRA", b"SPOT", b"INTER", b"CREDIT", b"SHORT", b"R")
 
@@ -32,7 +30,7 @@ class Question(Generic[Result]):
     ) -> None:
         self.request, self._read, self.changes, self._ended = request, read, changes, ended
 
-    def told(self) -> Union[Result, SpanError]:
+    def told(self) -> Union[Result, SpanError, ValueError]:
         """The result of the complete request, or the error with which it was rejected or the session ended."""
         if self.request.end:
             return self._ended(self.request.end)
@@ -42,11 +40,20 @@ class Question(Generic[Result]):
 class One(Question[Result]):
     """A question of one line."""
 
-    def told(self) -> Union[Result, SpanError]:
+    def told(self) -> Union[Result, SpanError, ValueError]:
         request = self.request
         if request.refused and not request.end:
             return error_of_request(request.refused[0], request.lines[0][:-1])
+        if request.differs and request.key:
+            return ValueError(f"the key {request.key.name!r} is the one of another fill")
         return super().told()
+
+
+class Explained(NamedTuple):
+    """The explanation of an account, and the content of the parameter file under which it was computed."""
+
+    whole: AccountExplanation
+    content: bytes
 
 
 # --- Questions about what the session holds ---
@@ -54,7 +61,7 @@ class One(Question[Result]):
 
 def margins() -> Question[Statement]:
     """The margins of all accounts."""
-    request = Request(["MARGIN\n"], [Expected(b"T,", (b"\nR,", b"\nT,"), empty=True)])
+    request = Request(["MARGIN\n"], [OfAnyAccounts(b"T,", empty=True, most=OF_ALL)])
     return One(request, lambda it: _results.statement(it.answers[0], it.money, it.set))
 
 
@@ -66,14 +73,24 @@ def margin(account: str) -> Question[AccountMargin]:
 
 def explanation(account: str) -> Question[AccountExplanation]:
     """The reasons for the margin of an account."""
+    return One(_of_explanation(account), lambda it: AccountExplanation(it.answers[0], it.money))
+
+
+def explained(account: str) -> Question[Explained]:
+    """The reasons for the margin of an account, with the parameter file."""
+    request = _of_explanation(account)
+    request.keeps_content = True
+    return One(request, lambda it: Explained(AccountExplanation(it.answers[0], it.money), it.content))
+
+
+def _of_explanation(account: str) -> Request:
     line, names = _line("EXPLAIN", account), _names(account)
-    expected = Expected(b"T" + names, [b"\n" + word + names for word in REASONS])
-    return One(Request([line], [expected]), lambda it: AccountExplanation(it.answers[0], it.money))
+    return Request([line], [Expected(b"T" + names, [b"\n" + word + names for word in REASONS])])
 
 
 def positions() -> Question[Positions]:
     """The positions of all accounts."""
-    request = Request(["POSITIONS\n"], [Expected(b"", None, empty=True)])
+    request = Request(["POSITIONS\n"], [Expected(b"", None, empty=True, of_set=False, most=OF_ALL)])
     return One(request, lambda it: _results.positions(it.answers[0], it.set))
 
 
@@ -135,11 +152,21 @@ def _told(request: Request, errors: Iterable[Optional[SpanError]]) -> Iterator[U
             yield error_of_request(request.refused[at], request.lines[at][:-1]) if at in request.refused else request.answers[at]
 
 
-def filled(account: str, legs: Legs) -> Question[AccountTotal]:
-    """Adds quantities to the positions of an account."""
+def filled(account: str, legs: Legs, name: Optional[str]) -> Question[AccountTotal]:
+    """Adds quantities to the positions of an account, once if `name` is the name of a key."""
     line = _line("FILL", account, *_pairs(legs))
-    request = Request([line], [Expected(b"T" + _names(account))])
+    key = None if name is None else Key(_need_key(name), _line("FILL", account, *_pairs(dict(sorted(legs.items())))))
+    request = Request([line], [Expected(b"T" + _names(account))], key=key)
     return One(request, lambda it: _results.account_total(it.answers[0], it.money), changes=True)
+
+
+def _need_key(name: str) -> str:
+    """The name of a key. Raises an error if it is none: all fills without a name would be the same."""
+    if not isinstance(name, str):
+        raise TypeError(f"a key is a str, not {type(name).__name__}")
+    if not name:
+        raise ValueError("a key must not be empty")
+    return str(name)
 
 
 def walked(account: str, blocks: Iterable[Sequence[Tuple[str, int]]]) -> Question[TriedOrders]:
@@ -164,41 +191,34 @@ def walked(account: str, blocks: Iterable[Sequence[Tuple[str, int]]]) -> Questio
 # --- Parameter sets ---
 
 
-def opened(file: SetFile, inputs: Inputs) -> Question[SetCounts]:
+def opened(content: bytes, digits: Optional[int], inputs: Inputs) -> Question[SetCounts]:
     """The opening. Its request is not sent: the session answers it when it has read both files."""
-    return Question(*_of_set("", file, inputs), ended=End.of_opening)
+    return Question(*_of_set("", content, digits, inputs), ended=End.of_opening)
 
 
-def used(params: Source, digits: Optional[int], deadline: Deadline) -> Question[SetCounts]:
-    """Replaces the parameter set. A file made for the request is removed when the session has read it."""
-    inputs = Inputs(deadline)
+def used(params: Source, digits: Optional[int], deadline: Deadline, check: Callable[[], None]) -> Question[SetCounts]:
+    """Replaces the parameter set. The file made for the request is removed when the session has read it.
+
+    `check` raises an error if the session ends while a file is read.
+    """
+    inputs = Inputs(deadline, status=None, check=check)
     try:
-        path = inputs.file(params, PARAMETER, "params.csv")
-        # The working directory may have changed since the session was started.
-        whole = path if os.path.isabs(path) else os.path.join(os.getcwd(), path)
-        file = SetFile(whole if _fits(whole) else inputs.copy(path, "params.csv"), digits, deadline, keep=True)
-        return One(*_of_set(f"SET,{file.path}\n", file, inputs), changes=True)
+        content = inputs.content(params, PARAMETER)
+        path = inputs.write(content, "params.csv")
+        return One(*_of_set(f"SET,{path}\n", content, digits, inputs), changes=True)
     except BaseException:
         inputs.close()
         raise
 
 
-def _of_set(line: str, file: SetFile, inputs: Inputs) -> Tuple[Request, Callable[[Request], SetCounts]]:
-    """A request that makes the session read a parameter file, and how its answer is read."""
-    replaced: List[str] = []  # the id of the set that the session read, if the file has another one
-
-    def used(set_id: str) -> Tuple[Money, Optional[bytes]]:
-        if file.has_still(set_id):
-            return file.money, file.content()
-        replaced.append(set_id)
-        return UNKNOWN, None
-
-    def read(request: Request) -> SetCounts:
-        if replaced:
-            raise FileChangedError(file.path)
-        return _results.set_counts(request.answers[0])
-
-    return Request([line], [Expected(b"OK,")], used, inputs.close), read
+def _of_set(
+    line: str, content: bytes, digits: Optional[int], inputs: Inputs
+) -> Tuple[Request, Callable[[Request], SetCounts]]:
+    """A request that makes the session read a parameter file with this content, and how its answer is read."""
+    found = set_record_in(content)
+    used = InUse(found[0], Money(found[1], digits), content) if found else InUse(money=Money(None, digits), content=content)
+    expected = Expected(f"OK,{found[0]},".encode() if found else b"OK,", of_set=False)
+    return Request([line], [expected], used, inputs.close), lambda it: _results.set_counts(it.answers[0])
 
 
 # --- Lines ---
@@ -232,8 +252,3 @@ def _try(account: str, legs: Legs, name: str = NAME) -> Tuple[str, Expected]:
     line = _line("TRY", name, account, *_pairs(legs))
     names = _names(name, account)
     return line, Expected(b"ORDER" + names, (b"\nCHANGE" + names,))
-
-
-def _fits(path: str) -> bool:
-    """Whether a request can contain this path."""
-    return not set(path) & set("\r\n") and len(f"SET,{path}".encode()) <= LONGEST_REQUEST

@@ -1,13 +1,13 @@
 """What calls return: the bytes that the program printed, and objects for their lines, which are made when they are asked for."""
 from dataclasses import FrozenInstanceError, dataclass, fields
-from functools import cached_property
 from typing import (
-    Any, Callable, Dict, Generic, Iterator, List, NoReturn, Optional, Sequence, Tuple, Type, TypeVar, Union, cast, overload,
+    Any, Callable, Dict, Generic, Iterable, Iterator, List, NoReturn, Optional, Sequence, Tuple, Type, TypeVar, Union, cast, overload,
 )
 
 from span_margin._amounts import UNKNOWN, Money
-from span_margin._errors import ProgramError
-from span_margin._frames import frame_of_rows
+from span_margin._cached import cached
+from span_margin._errors import ProgramError, visible
+from span_margin._frames import Kinds, frame_of_rows, text_column
 from span_margin._lines import (
     AccountTotal,
     Change,
@@ -25,7 +25,6 @@ from span_margin._lines import (
     Scan,
     SetCounts,
     Short,
-    Shown,
     Spot,
     Sums,
     fault_of,
@@ -71,7 +70,7 @@ class Result(Printed, Generic[Item]):
     _printed: bytes
     _set_id: Optional[str] = None
 
-    @cached_property
+    @cached
     def _items(self) -> Tuple[Item, ...]:
         raise NotImplementedError
 
@@ -89,7 +88,7 @@ class Result(Printed, Generic[Item]):
     def __iter__(self) -> Iterator[Item]:
         return iter(self._items)
 
-    @cached_property
+    @cached
     def _by_name(self) -> Dict[str, Optional[Item]]:
         """The items by their names, and None for a name that two items have."""
         named: Dict[str, Optional[Item]] = {}
@@ -141,7 +140,7 @@ class Result(Printed, Generic[Item]):
 
     def __repr__(self) -> str:
         printed = bytes(self)
-        last = text_of(printed[_last_line(printed) :].rstrip(b"\n"))
+        last = visible(text_of(printed[_last_line(printed) :].rstrip(b"\n")))
         return f"<{type(self).__name__} of {_count(printed)} lines{last and ', the last '}{last}>"
 
     def __reduce__(self) -> Tuple[Any, ...]:
@@ -178,7 +177,7 @@ class Whole(Result[Item]):
     def __bool__(self) -> bool:
         return True
 
-    @cached_property
+    @cached
     def _last(self) -> Line:
         return cast(Line, object_of(text_of(self._printed[_last_line(self._printed) : -1]), self._money))
 
@@ -210,13 +209,13 @@ def _with_fields_of(make: Type[Line]) -> Callable[[Type[Kind]], Type[Kind]]:
 
 
 @_with_fields_of(AccountTotal)
-class AccountMargin(Whole[CommodityMargin], AccountTotal, Shown):
+class AccountMargin(Whole[CommodityMargin], AccountTotal):
     """The margin of an account: its total, and its requirement in each commodity. `margin["CL"]` is the requirement in CL."""
 
     _key = "commodity"
     _kinds = _STATEMENT
 
-    @cached_property
+    @cached
     def _items(self) -> Tuple[CommodityMargin, ...]:
         return tuple(self._objects(self._printed[: _last_line(self._printed)]))
 
@@ -226,13 +225,13 @@ class AccountMargin(Whole[CommodityMargin], AccountTotal, Shown):
         return self._items
 
 
-class Statement(OfSet[AccountMargin], Shown):
+class Statement(OfSet[AccountMargin]):
     """The margins of accounts. `statement["RIVER-01"]` is one of them."""
 
     _key = "_name"
     _kinds = _STATEMENT
 
-    @cached_property
+    @cached
     def _items(self) -> Tuple[AccountMargin, ...]:
         return tuple(AccountMargin(part, self._money) for part in _parts(self._printed, b"T,"))
 
@@ -259,7 +258,7 @@ class Roll(Result[Statement]):
     def __reduce__(self) -> Tuple[Any, ...]:
         return Roll, (self.today, self.next)
 
-    @cached_property
+    @cached
     def _items(self) -> Tuple[Statement, ...]:
         return self.today, self.next
 
@@ -270,10 +269,17 @@ class Roll(Result[Statement]):
         """A dict for each statement: `roll`, which is "today" or "next", `set`, and `accounts`, a list of dicts."""
         return [{"roll": name, "set": it.set, "accounts": it.to_dicts()} for name, it in self.items()]
 
-    def _frame(self, word: str) -> Any:
+    def _table(self, word: str) -> Tuple[Sequence[str], Kinds, Iterable[Sequence[Any]]]:
         """The lines of both statements. The column `roll` says which statement a line belongs to."""
-        frame = super()._frame(word)
-        frame.insert(0, "roll", [name for name, it in self.items() for _ in it._lines_of(word)])
+        columns, kinds, _ = super()._table(word)
+        rows = ((name, *row) for name, it in self.items() for row in it._table(word)[2])
+        return ("roll", *columns), (str, *kinds), rows
+
+    def _read_frame(self, word: str, lines: Sequence[bytes]) -> Any:
+        frame = super()._read_frame(word, lines)
+        of_lines = [(name, it.currency) for name, it in self.items() for _ in it._lines_of(word)]
+        frame.insert(0, "roll", [name for name, _ in of_lines])
+        frame["currency"] = text_column([currency for _, currency in of_lines])
         return frame
 
 
@@ -300,13 +306,13 @@ class CommodityExplanation(Line):
 
 
 @_with_fields_of(AccountTotal)
-class AccountExplanation(Whole[CommodityExplanation], AccountTotal, Shown):
+class AccountExplanation(Whole[CommodityExplanation], AccountTotal):
     """The reasons for the margin of an account. `explanation["CL"]` has the reasons in CL."""
 
     _key = "commodity"
     _kinds = _EXPLANATION
 
-    @cached_property
+    @cached
     def _items(self) -> Tuple[CommodityExplanation, ...]:
         commodities: List[CommodityExplanation] = []
         reasons: List[Line] = []
@@ -330,13 +336,13 @@ class AccountExplanation(Whole[CommodityExplanation], AccountTotal, Shown):
         return AccountMargin(b"\n".join(lines), self._money)
 
 
-class Explanation(OfSet[AccountExplanation], Shown):
+class Explanation(OfSet[AccountExplanation]):
     """The reasons for the margins of accounts. `explanation["RIVER-01"]` has the reasons of one account."""
 
     _key = "_name"
     _kinds = _EXPLANATION
 
-    @cached_property
+    @cached
     def _items(self) -> Tuple[AccountExplanation, ...]:
         return tuple(AccountExplanation(part, self._money) for part in _parts(self._printed, b"T,"))
 
@@ -389,7 +395,7 @@ class TriedOrder(Whole[Change], OrderTotal):
     _kinds = _ORDERS
     _parts = "changes"
 
-    @cached_property
+    @cached
     def _items(self) -> Tuple[Change, ...]:
         return tuple(self._objects(self._printed[: _last_line(self._printed)]))
 
@@ -406,7 +412,7 @@ class TriedOrders(OfSet[TriedOrder]):
     _kinds = _ORDERS
     _set_at = 3
 
-    @cached_property
+    @cached
     def _items(self) -> Tuple[TriedOrder, ...]:
         return tuple(TriedOrder(part, self._money) for part in _parts(self._printed, b"ORDER,"))
 
@@ -424,7 +430,7 @@ class Faults(Result[Fault]):
 
     _kinds = {"faults": ""}
 
-    @cached_property
+    @cached
     def _items(self) -> Tuple[Fault, ...]:
         return tuple(fault_of(line) for line in self.text.split("\n")[:-1])
 
@@ -433,10 +439,13 @@ class Faults(Result[Fault]):
         """Each fault."""
         return self._items
 
-    def _frame(self, word: str) -> Any:
+    def _table(self, word: str) -> Tuple[Sequence[str], Kinds, Iterable[Sequence[Any]]]:
         columns = [field.name for field in fields(Fault)]
         kinds = [int if name == "record" else str for name in columns]
-        return frame_of_rows(columns, kinds, ([getattr(fault, name) for name in columns] for fault in self))
+        return columns, kinds, ([getattr(fault, name) for name in columns] for fault in self)
+
+    def _frame(self, word: str) -> Any:
+        return frame_of_rows(*self._table(word))
 
 
 class Positions(OfSet[Position]):
@@ -448,7 +457,7 @@ class Positions(OfSet[Position]):
     def set(self) -> Optional[str]:
         return self._set_id
 
-    @cached_property
+    @cached
     def _items(self) -> Tuple[Position, ...]:
         return tuple(object_of(line, word="") for line in self.text.split("\n")[:-1])
 

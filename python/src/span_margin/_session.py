@@ -1,21 +1,27 @@
 """Sessions: one process of the program that keeps a parameter set and all positions, and answers requests about them."""
 import os
+import weakref
 from collections import deque
+from functools import partial
 from types import TracebackType
-from typing import Any, Iterable, Iterator, List, Literal, Mapping, NamedTuple, NoReturn, Optional, Tuple, Type, TypeVar, Union, overload
+from typing import (
+    Any, Callable, Dict, Iterable, Iterator, List, Literal, Mapping, NamedTuple, NoReturn, Optional, Tuple, Type, TypeVar, Union, overload,
+)
 
 from span_margin import _attribution, _closing, _program, _questions
 from span_margin._attribution import Attribution
 from span_margin._closing import CheapestClose, Price
-from span_margin._channel import SLICE, Channel
-from span_margin._errors import SessionEnded, SpanError, TimedOut
-from span_margin._inputs import PARAMETER, POSITION, Inputs, SetFile, Source
+from span_margin._channel import Channel
+from span_margin._errors import ProgramError, SessionEnded, SpanError, TimedOut, error_of_status, visible
+from span_margin._inputs import PARAMETER, POSITION, Inputs, Source
 from span_margin._lines import AccountTotal, SetCounts
-from span_margin._program import Deadline
-from span_margin._questions import NAME, Legs, Question, Try
+from span_margin._program import SLICE, Deadline
+from span_margin._questions import NAME, Explained, Legs, Question, Try
 from span_margin._results import AccountExplanation, AccountMargin, Positions, Statement, TriedOrder, TriedOrders
 
 Result = TypeVar("Result")
+Work = Callable[["Desk", Deadline], Result]  # asks a copy of the session many questions
+Prepare = Callable[[AccountExplanation], Work[Result]]  # checks arguments against the account, before the copy is opened
 NEVER = Deadline()
 
 
@@ -30,19 +36,21 @@ class Outcome(NamedTuple):
 
     state: Literal["accepted", "refused", "not yet", "not sent", "unknown"]
     result: Union[AccountTotal, SetCounts, None] = None
-    error: Optional[SpanError] = None
+    error: Union[SpanError, ValueError, None] = None
 
 
 class Left:
     """A request whose caller did not get the answer, since it was interrupted or its time was up.
 
     request  the request, such as `FILL,RIVER-01,CLX5,10`
+    key      the key of the fill, or None; two entries with the same key are one fill
     sent     whether it was sent; otherwise it was withdrawn, and changes nothing
     """
 
     def __init__(self, question: Question[Any]) -> None:
         self.of = question
         self.request: str = "".join(question.request.lines[:1]).rstrip("\n")
+        self.key: Optional[str] = question.request.key and question.request.key.name
 
     @property
     def sent(self) -> bool:
@@ -63,10 +71,10 @@ class Left:
             told = self.of.told()
         except SpanError as error:  # the answer cannot be read
             return Outcome("accepted", error=error)
-        return Outcome("refused", error=told) if isinstance(told, SpanError) else Outcome("accepted", told)
+        return Outcome("refused", error=told) if isinstance(told, (SpanError, ValueError)) else Outcome("accepted", told)
 
     def __repr__(self) -> str:
-        return f"<{self.request}: {self.outcome().state}>"
+        return f"<{visible(self.request)}: {self.outcome().state}>"
 
 
 class Desk:
@@ -80,6 +88,7 @@ class Desk:
         self._arguments = (params, positions, workers, program)
         self._timeout, self._digits = timeout, digits
         self._left: List[Left] = []
+        self._copies: "Dict[int, weakref.ref[Copy]]" = {}  # that calls use
         self._channel: Optional[Channel] = None
         self._opening: Optional[Question[SetCounts]] = None
 
@@ -88,20 +97,38 @@ class Desk:
         params, positions, workers, program = self._arguments
         inputs = Inputs(deadline)
         try:
-            files = [inputs.file(params, PARAMETER, "params.csv"), inputs.file(positions, POSITION, "positions.csv")]
+            content = inputs.content(params, PARAMETER)
+            files = [inputs.write(content, "params.csv"), inputs.file(positions, POSITION, "positions.csv")]
             words = ["session", f"--workers={workers}", "--", *files]
             command = _program.command(*words, least=_program.SESSIONS, program=program, deadline=deadline)
-            self._opening = _questions.opened(SetFile(files[0], self._digits, deadline, keep=True), inputs)
+            self._opening = _questions.opened(content, self._digits, inputs)
             self._channel = Channel(command, self._opening.request)
+            if deadline.left() == 0:  # perhaps it was abandoned before it had a channel
+                raise deadline.passed()
             return self._channel, self._opening
         except BaseException:
             inputs.close()
             raise
 
+    def _open(self, deadline: Deadline) -> None:
+        """Opens the session, in a thread that waits."""
+        channel, opening = self._prepare(deadline)
+        channel.start()
+        if not opening.request.wait(deadline):
+            raise self._timed_out(opening, deadline)
+        told = opening.told()
+        if isinstance(told, Exception):
+            raise told
+
+    _is_copy = False
+
     def _abandon(self) -> None:
-        """Ends an opening that failed or was interrupted."""
+        """Ends the session and its copies, or an opening that failed or was interrupted, and does not wait."""
+        for copy in [found() for found in list(self._copies.values())]:
+            if copy:
+                copy._abandon()
         if self._channel:
-            self._channel.close(wait=False)
+            self._channel.close(wait=False, kill=self._is_copy)
         if self._opening:
             self._opening.request.leave(drop=True)
 
@@ -118,7 +145,7 @@ class Desk:
     @property
     def set(self) -> str:
         """The id of the parameter set in use."""
-        return self._channel.set if self._channel else ""
+        return self._channel.used.set if self._channel else ""
 
     @property
     def closed(self) -> bool:
@@ -160,12 +187,21 @@ class Desk:
 
     # --- Questions, in a thread that waits for the answers ---
 
-    def _empty(self, deadline: Deadline) -> "Session":
-        """A session without positions, with the same program and parameter set."""
-        channel = self._open_channel()
-        if channel.content is None:
-            raise ValueError("more than 64 contracts need the parameter file again, which is a pipe, or was replaced while span read it")
-        return Session(channel.content, b"", timeout=deadline.left(), program=channel.command[0], digits=self._digits)
+    def _on_copy(self, copy: "Copy", work: Work[Result], deadline: Deadline) -> Result:
+        """What many questions to a copy find out. The copy is opened and ended here, and ends with the session."""
+        try:
+            self._copies[id(copy)] = weakref.ref(copy)
+            self._open_channel().check()
+            copy._open(deadline)
+            return work(copy, deadline)
+        except SessionEnded as error:
+            self._open_channel().check()
+            if error.status is None:
+                raise
+            raise error_of_status(error.status, error.line) from error
+        finally:
+            copy._abandon()
+            self._copies.pop(id(copy), None)  # (an interrupt may come before it is there)
 
     def _wait_for(self, question: Question[Result], timeout: Union[Deadline, float, None]) -> Result:
         """The answer to a question. Raises its error if it is rejected.
@@ -173,7 +209,7 @@ class Desk:
         All from the sending to the return is in one `try`: whatever interrupts it, the request is withdrawn, or kept in `left`. An
         interrupt that comes when this has returned is like one after the call: the caller does not get what the call returned.
         """
-        told: Union[Result, SpanError, None] = None
+        told: Union[Result, Exception, None] = None
         try:
             deadline, request = self._deadline(timeout), question.request
             (self._channel or self._open_channel()).put(request)
@@ -181,7 +217,7 @@ class Desk:
                 told = self._timed_out(question, deadline)
                 raise told
             told = question.told()
-            if isinstance(told, SpanError):
+            if isinstance(told, Exception):
                 raise told
             return told
         except BaseException as error:
@@ -211,9 +247,25 @@ class Desk:
         if not question.request.wait(deadline):
             raise self._timed_out(question, deadline)
         told = question.told()
-        if isinstance(told, SpanError):
+        if isinstance(told, Exception):
             raise told
         return told
+
+
+class Copy(Desk):
+    """A session of its own that has one account, as it was explained, and the parameter set of that time. No trade reaches it."""
+
+    _is_copy = True
+
+    def __init__(self, desk: Desk, explained: Explained) -> None:
+        self._whole = explained.whole
+        held = [(explained.whole.account, held.contract, held.quantity) for it in explained.whole for held in it.held]
+        super().__init__(explained.content, held, program=desk._open_channel().command[0], digits=desk._digits)
+
+    def _open(self, deadline: Deadline) -> None:
+        super()._open(deadline)
+        if len(self._whole) and self._wait_for(_questions.explanation(self._whole.account), deadline) != self._whole:
+            raise ProgramError(f"a copy of the session explains {self._whole.account} otherwise than the session")
 
 
 class Session(Desk):
@@ -242,14 +294,7 @@ class Session(Desk):
         """
         super().__init__(params, positions, workers=workers, timeout=timeout, program=program, digits=digits)
         try:
-            deadline = Deadline(timeout)
-            channel, opening = self._prepare(deadline)
-            channel.start()
-            if not opening.request.wait(deadline):
-                raise self._timed_out(opening, deadline)
-            told = opening.told()
-            if isinstance(told, SpanError):
-                raise told
+            self._open(Deadline(timeout))
         except BaseException:
             self._abandon()
             raise
@@ -262,6 +307,7 @@ class Session(Desk):
 
     def close(self) -> None:
         """Ends the session and its process at once. Calls that wait and calls that follow raise SessionEnded."""
+        self._abandon()
         if self._channel:
             self._channel.close()
 
@@ -315,14 +361,14 @@ class Session(Desk):
     ) -> Attribution:
         """What each position of an account contributes to its total, or to its due, in whole minor units that add up to it.
 
-        It evaluates orders that close positions, and changes nothing. `seed` chooses the random orders of an account with more than 12
-        contracts. For more than 64 contracts, it opens a session of its own.
+        It evaluates orders that close positions, in a second process with a copy of the account. So it is right whatever others trade
+        meanwhile, for the positions that it names, and the session is free for other calls. `seed` chooses the random orders of an account
+        with more than 12 contracts.
 
-        Raises RequestError E1 if there is no such account, PositionsChangedError if another thread changes its positions or the parameter
-        set meanwhile, and ValueError if the set has no option values, so that there is no due, or if more than 64 contracts need the
-        parameter file again, and it was a pipe or has been replaced.
+        Raises RequestError E1 if there is no such account, ValueError if the set has no option values, so that there is no due, and
+        ProgramError if the second process ends.
         """
-        return _attribution.attribution(self, account, of, seed, self._deadline(timeout))
+        return self._copied(account, partial(_attribution.asked, of=of, seed=seed), timeout)
 
     def cheapest_close(
         self, account: str, target: int, of: Literal["total", "due"] = "total", *, cost: Optional[Mapping[str, Price]] = None,
@@ -342,23 +388,37 @@ class Session(Desk):
         and the result may not be the cheapest; `is_optimal` tells. No result can be improved by taking back a lot, or by closing a lot of
         a cheaper contract in its place.
 
-        Raises RequestError E1 if there is no such account, PositionsChangedError if another thread changes its positions or the parameter
-        set meanwhile, ValueError if there is no due, or if prices, `only` or `most` are wrong, and TypeError for a price that is a float.
-        """
-        limits = (tries, seconds)
-        return _closing.cheapest_close(self, account, target, of, (cost, only, most), limits, self._deadline(timeout))
+        The orders are evaluated in a second process with a copy of the account, as for `attribution`.
 
-    def fill(self, account: str, legs: Legs, *, timeout: Optional[float] = None) -> AccountTotal:
-        """Adds quantities to the net positions of an account, which may be a new one. Returns its total afterwards."""
-        return self._ask(_questions.filled(account, legs), timeout)
+        Raises RequestError E1 if there is no such account, ValueError if there is no due, or if prices, `only` or `most` are wrong,
+        TypeError for a price that is a float, and ProgramError if the second process ends.
+        """
+        prepare = partial(_closing.asked, target=target, of=of, chosen=(cost, only, most), limits=(tries, seconds))
+        return self._copied(account, prepare, timeout)
+
+    def _copied(self, account: str, prepare: Prepare[Result], timeout: Optional[float]) -> Result:
+        """What many questions find out about an account, as it is now."""
+        deadline = self._deadline(timeout)
+        explained = self._wait_for(_questions.explained(account), deadline)
+        work = prepare(explained.whole)
+        return self._on_copy(Copy(self, explained), work, deadline)
+
+    def fill(self, account: str, legs: Legs, *, key: Optional[str] = None, timeout: Optional[float] = None) -> AccountTotal:
+        """Adds quantities to the net positions of an account, which may be a new one. Returns its total afterwards.
+
+        A fill with a key is carried out once, so you can ask again after an interrupt or a timeout: a later fill with the same key gets the
+        result or the error of the first one, and waits for it if it is in flight. If the first one was withdrawn, or refused since memory
+        ran out, the next one is carried out. The last 100,000 keys are kept. Raises ValueError if the key is the one of another fill.
+        """
+        return self._ask(_questions.filled(account, legs, key), timeout)
 
     def use_set(self, params: Source, *, timeout: Optional[float] = None) -> SetCounts:
-        """Replaces the parameter set, and keeps all positions. Returns the counts of the new set.
+        """Replaces the parameter set, and keeps all positions. Returns the counts of the new set. A pipe waits for its writer.
 
         Raises ParametersError, or FileError, or PositionsError if an account holds a contract that the new set lacks.
         """
         deadline = self._deadline(timeout)
-        return self._ask(_questions.used(params, self._digits, deadline), deadline)
+        return self._ask(_questions.used(params, self._digits, deadline, self._open_channel().check), deadline)
 
     def positions(self, *, timeout: Optional[float] = None) -> Positions:
         """The positions of all accounts. An account that holds nothing has one record of quantity 0."""

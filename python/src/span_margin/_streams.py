@@ -9,7 +9,7 @@ import os
 import sys
 from typing import Any, Callable, List, NoReturn, Optional, TextIO
 
-from span_margin._errors import SpanError
+from span_margin._errors import SpanError, visible
 from span_margin._inputs import replace
 
 NOT_FOUND, REJECTED, NO_FILE = 1, 2, 6  # exit statuses; those from 2 on are the same as in span
@@ -42,7 +42,7 @@ def finish(name: str, command: Callable[[], None]) -> None:
     except SpanError as error:
         status, message = error.status or REJECTED, str(error)
     try:
-        _write_all(sys.stderr, 2, f"{name}: {message}\n".encode("utf-8", "backslashreplace"))
+        _write_all(sys.stderr, 2, f"{name}: {visible(message)}\n".encode())
     except OSError:
         pass  # there is only the exit status to say it
     sys.exit(status)

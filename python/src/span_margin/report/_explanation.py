@@ -2,9 +2,9 @@
 from __future__ import annotations
 
 from dataclasses import dataclass
-from functools import cached_property
 from typing import Callable, Container, Dict, Iterable, List, NamedTuple, NoReturn, Optional, Set, Tuple, TypeVar
 
+from span_margin._cached import cached
 from span_margin._errors import ProgramError
 from span_margin._lines import Fields, fields_of, own_fields_of
 
@@ -120,7 +120,7 @@ class Commodity:
     short: Short
     row: Row
 
-    @cached_property
+    @cached
     def parts(self) -> Tuple[int, ...]:
         """The parts of the requirement, in the order of PARTS. The minimum adds what the other parts lack."""
         row = self.row
@@ -141,7 +141,7 @@ class Account:
     commodities: List[Commodity]
     total: Total
 
-    @cached_property
+    @cached
     def parts(self) -> Tuple[int, ...]:
         """The sums of the parts of its requirements."""
         return parts_of(self.commodities)

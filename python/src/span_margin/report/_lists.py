@@ -152,9 +152,10 @@ def order_rows(order: Order, scale: Scale, accounts: FrozenSet[str], unit: Unit)
     )
 
 
-def orders_table(explanation: Explanation, shown: Sequence[Order], accounts: FrozenSet[str], unit: Unit) -> str:
+def orders_table(shown: Sequence[Order], accounts: FrozenSet[str], unit: Unit) -> str:
+    """A table of one order or more."""
     scale = Scale(float(order.size()) for order in shown)
-    names = CHANGES + DUES if explanation.has_values() else CHANGES
+    names = CHANGES if shown[0].line.due_change is None else CHANGES + DUES
     head = heads("Order", "account", *(f">{name}" for name in names), "effect", "=", rising=names[-1])
     bodies = "".join(order_rows(order, scale, accounts, unit) for order in shown)
     return f'<div class="wide"><table class="orders sorts folds">{head}{bodies}</table></div>'
@@ -171,5 +172,5 @@ def orders_part(explanation: Explanation, orders: Sequence[Order], top: int, acc
     return (
         '<section id="orders"><header><h2>Orders</h2></header><p class="note">Each order is evaluated by itself on the positions of its '
         f"account. It frees or costs the change of {what}. The rows below an order are the commodities whose requirement changes.</p>"
-        f"{left_out}{orders_table(explanation, shown, accounts, unit)}</section>\n"
+        f"{left_out}{orders_table(shown, accounts, unit)}</section>\n"
     )

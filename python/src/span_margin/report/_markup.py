@@ -3,10 +3,12 @@ from __future__ import annotations
 
 from dataclasses import dataclass
 from decimal import Decimal
-from functools import cached_property, lru_cache
+from functools import lru_cache
 from html import escape
 from typing import Callable, Iterable, List, Sequence, Tuple, Union
 from urllib.parse import quote
+
+from span_margin._cached import cached
 
 CACHED = 1 << 16  # names whose markup is kept, since most of them appear again
 
@@ -32,7 +34,7 @@ class Unit:
     def amounts(self, minor: Iterable[str]) -> List[str]:
         return [self.amount(each) for each in minor]
 
-    @cached_property
+    @cached
     def figure(self) -> Callable[[str], str]:
         """The function that makes the markup of an amount of a line in this unit."""
         return (lambda minor: figure(self.amount(minor))) if self.digits else figure

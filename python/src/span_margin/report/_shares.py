@@ -2,10 +2,11 @@
 from __future__ import annotations
 
 import json
-from typing import Any, Dict, Iterable, Mapping, Sequence, Union
+import re
+from typing import Any, Dict, Iterable, Mapping, Sequence, Type, Union
 
 from span_margin._attribution import LESS_TOTAL, MEASURES, Attribution, Share
-from span_margin._amounts import Amount
+from span_margin._amounts import Amount, Money
 from span_margin._answers import names_of
 from span_margin.report._explanation import TYPES, Account, Explanation, Held, Rejected
 from span_margin.report._markup import (
@@ -34,8 +35,8 @@ def maybe(found: object, make: Any) -> Any:
     return None if found is None else taken(found, make)
 
 
-def amounts(found: Dict[object, object]) -> Dict[str, Amount]:
-    return {taken(name, str): taken(amount, Amount) for name, amount in found.items()}
+def amounts(found: Dict[object, object], amount: Type[Amount]) -> Dict[str, Amount]:
+    return {taken(name, str): taken(digits, amount) for name, digits in found.items()}
 
 
 def fields_of(found: Dict[str, Any], make: Any) -> Dict[str, Any]:
@@ -45,19 +46,24 @@ def fields_of(found: Dict[str, Any], make: Any) -> Dict[str, Any]:
     return found
 
 
-def share_of(data: Dict[str, Any]) -> Share:
+def share_of(data: Dict[str, Any], amount: Type[Amount]) -> Share:
     found = fields_of(data, Share)
     return Share(
-        taken(found["contract"], str), taken(found["commodity"], str), taken(found["quantity"], int), taken(found["share"], Amount),
-        maybe(found["standard_error"], Amount), taken(found["marginal"], Amount), amounts(found["parts"]))
+        taken(found["contract"], str), taken(found["commodity"], str), taken(found["quantity"], int), taken(found["share"], amount),
+        maybe(found["standard_error"], amount), taken(found["marginal"], amount), amounts(found["parts"], amount))
 
 
 def attribution_of(line: bytes) -> Attribution:
     """The attribution of a line of JSON. Raises ValueError, TypeError, AttributeError or RecursionError if it is not one."""
-    found = fields_of(json.loads(line), Attribution)
+    data = json.loads(line)
+    currency = maybe(data.pop("currency", None), str)
+    if currency is not None and not re.fullmatch("[A-Z]{3}", currency):
+        raise ValueError
+    found, amount = fields_of(data, Attribution), Money(currency).amount
     return Attribution(
-        taken(found["account"], str), taken(found["set"], str), taken(found["of"], str), taken(found["amount"], Amount),
-        maybe(found["orders"], int), maybe(found["seed"], int), amounts(found["columns"]), tuple(map(share_of, found["shares"])))
+        taken(found["account"], str), taken(found["set"], str), taken(found["of"], str), taken(found["amount"], amount),
+        maybe(found["orders"], int), maybe(found["seed"], int), amounts(found["columns"], amount),
+        tuple(share_of(it, amount) for it in found["shares"]))
 
 
 def read_attributions(data: bytes, explanation: Explanation) -> Dict[str, Attribution]:
